@@ -1,0 +1,66 @@
+-- Laws of what a lent output holds: its length, one element more, a part that was lent on and came back, what lies past the list; and that
+-- the answer and the list settle it.
+-- Assumes nothing.
+use mathlib.Core.Path.{_≡_, refl, sym, ap, _∙_}
+use mathlib.Core.List.{List, [], _∷_, _++_, append-assoc, append-nil}
+use Prim.Native.Nat.{ℕ, zero, suc, _+_, _-_, _≤_, _<_}
+use native.Mathlib.Numerals.{add-one}
+use native.Mathlib.Omega.{arith}
+use lib.ListN.{length, getD, take, drop, set, length-append, length-drop, drop-of-length-le}
+use lib.Seq.{take-at, drop-at, drop-drop, drop-cons, take-all, set-at, append-snoc, getD-append-add, getD-drop}
+use Rattle.lent.specs.Filled.{over, filled}
+
+module _ {A : Type 0} where
+  pub over-none : (out : List A) → out ≡ over [] out
+  unfolding over
+  over-none out = refl
+
+  pub length-over : (l out : List A) → length l ≤ length out → length (over l out) ≡ length out
+  unfolding over
+  length-over l out h = simp (length-append, length-drop) (omega arith)
+
+  -- one element more, stored where the list ends
+  pub over-one-more : (l out : List A) (i : ℕ) (b : A) → length l ≡ i → i < length out → set (over l out) i b ≡ over (l ++ (b ∷ [])) out
+  unfolding over
+  over-one-more l out i b e h =
+      rw (drop-cons out (length l) b (omega arith), set-at l (getD out (length l) b) (drop (suc (length l)) out) b i e)
+      (simp (append-snoc, length-append, add-one))
+
+  -- the part that begins where the list ends was lent on, and came back with g at its front
+  pub over-part : (l g out : List A) (a k : ℕ) → length l ≡ a → k ≡ length out - a → length l + length g ≤ length out
+      → take a (over l out) ++ (over g (take k (drop a (over l out))) ++ drop k (drop a (over l out))) ≡ over (l ++ g) out
+  unfolding over
+  over-part l g out a k e f h =
+      let d : List A = drop (length l) out in
+      let n : length d ≤ k = simp length-drop (omega arith) in
+      simp (take-at l d a e, drop-at l d a e, take-all k d n, drop-of-length-le d n, append-nil, append-assoc, length-append, drop-drop)
+
+  -- the front is the list
+  pub over-front : (l out : List A) → take (length l) (over l out) ≡ l
+  unfolding over
+  over-front l out = take-at l (drop (length l) out) (length l) refl
+
+  -- past the list each element is as lent
+  pub over-past : (l out : List A) (i : ℕ) (d : A) → length l ≤ i → getD (over l out) i d ≡ getD out i d
+  unfolding over
+  over-past l out i d h =
+      let e : length l + (i - length l) ≡ i = omega arith in
+      rw e at (getD-append-add l (drop (length l) out) (i - length l) d ∙ getD-drop (length l) out (i - length l) d)
+
+  pub filled-done : (l out : List A) → filled 0 l out ≡ over l out
+  unfolding filled
+  filled-done l out = refl
+
+  pub filled-refused : (n : ℕ) (l out : List A) → 0 < n → filled n l out ≡ out
+  unfolding filled
+  filled-refused zero l out h = let z : ⊥ = omega arith in absurd z
+  filled-refused (suc n) l out h = refl
+
+  pub length-filled : (n : ℕ) (l out : List A) → length l ≤ length out → length (filled n l out) ≡ length out
+  unfolding filled
+  length-filled zero l out h = length-over l out h
+  length-filled (suc n) l out h = refl
+
+-- Two outcomes that both equal what a definition gives are the same: each public call's uniqueness is an instance.
+pub settled : {A : Type 0} {x : A} (a b : A) → a ≡ x → b ≡ x → a ≡ b
+settled a b p q = p ∙ sym q

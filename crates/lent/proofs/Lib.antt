@@ -1,0 +1,4 @@
+pub mod Tests
+pub mod Lists
+pub mod Numbers
+pub mod Filled

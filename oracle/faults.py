@@ -1,0 +1,224 @@
+#!/usr/bin/env python3
+"""Puts deliberate faults into the model, one at a time, and asks whether the comparison notices each.
+
+    python3 oracle/faults.py
+
+Each fault is a change of the model's text that must apply exactly once. A fault is noticed when a changed model
+disagrees with the Rust on a modest list of requests, or with an answer that the documents state. Ends with
+`N faults, N noticed`; the status is 1 where one is not noticed, 3 where the Rust is not at hand.
+"""
+import os
+import sys
+import types
+
+import compare
+import generate
+import rust
+import stated
+
+SEED, SHARE = 11, 0.05
+
+# Name, the model's words, the words put in their place.
+FAULTS = [
+    ("a masked base is counted in later skips",
+     """            spot
+            for place, spot in zip(group.places, group.row)
+            if first <= place < last and (any_base or after[place - first] == wanted)
+""",
+     """            spot if first <= place < last and (any_base or after[place - first] == wanted) else BARE
+            for place, spot in zip(group.places, group.row)
+"""),
+    ("a dropped base is left out of later skips",
+     "            BARE if place in dropped else spot for place, spot in zip(group.places, group.row)\n",
+     "            spot for place, spot in zip(group.places, group.row) if place not in dropped\n"),
+    ("a drop does nothing",
+     "    make_bare(groups, dropped)\n",
+     ""),
+    ("ML rounded to nearest",
+     "256 * numerator // total",
+     "(512 * numerator + total) // (2 * total)"),
+    ("ML scaled by 255",
+     "256 * numerator // total",
+     "255 * numerator // total"),
+    ("ML of two codes advanced by one",
+     "                used += values\n",
+     "                used += 1\n"),
+    ("7 missed above 2^64",
+     "    refuse_if(len(digits) > 20, PAST_LAST_BASE)  # however large the number\n    skip = int(digits or b\"0\")\n",
+     "    skip = int(digits[-4000:] or b\"0\") % 2**64\n"),
+    ("a leading '+' is accepted",
+     "refuse_if(not field.isdigit(), BAD_SKIP)",
+     "refuse_if(not field.removeprefix(b\"+\").isdigit(), BAD_SKIP)"),
+    ("6 asked after 7",
+     "    refuse_if(not field.isdigit(), BAD_SKIP)\n",
+     "    refuse_if(room_left == 0, PAST_LAST_BASE)\n    refuse_if(not field.isdigit(), BAD_SKIP)\n"),
+    ("8 and 10 in the wrong order",
+     """            if ml is not None:
+                used += values
+                refuse_if(used > len(ml), ML_ENDS)
+            if group_places[len(row)] in dropped:
+                refuse_if(not header.endswith(b"?"), CANNOT_DROP)
+""",
+     """            if group_places[len(row)] in dropped:
+                refuse_if(not header.endswith(b"?"), CANNOT_DROP)
+            if ml is not None:
+                used += values
+                refuse_if(used > len(ml), ML_ENDS)
+"""),
+    ("9 asked before the text is read",
+     "    groups, used = [], 0\n",
+     """    groups, used = [], 0
+    refuse_if(ml is not None and len(ml) > 0 and b"," not in mm, ML_LEFT_OVER)
+"""),
+    ("9 never asked",
+     "    refuse_if(ml is not None and used != len(ml), ML_LEFT_OVER)\n",
+     ""),
+    ("a '?' in the middle taken for the last mark",
+     'header.endswith(b"?")',
+     'b"?" in header'),
+    ("the reader tracks bases of any case",
+     "for place, letter in enumerate(seq) if letter == wanted",
+     "for place, letter in enumerate(seq.upper()) if letter == wanted"),
+    ("an emptied group goes",
+     'return b",".join(fields) + b";"',
+     'return b",".join(fields) + b";" if len(fields) > 1 or not row else b""'),
+    ("'n' doesn't mask in a window",
+     'new in b"Nn"',
+     'new in b"N"'),
+    ("a start ignored in a cut",
+     "first = 0 if len(after) == len(before) else start",
+     "first = 0 if len(after) == len(before) or start is not None else None"),
+    ("a start heeded where lengths are equal",
+     "first = 0 if len(after) == len(before) else start",
+     "first = start"),
+    ("21 answered after the tag is read",
+     "    refuse_if(after == before, UNCHANGED)\n",
+     "    read_tag(mm, ml, before)\n    refuse_if(after == before, UNCHANGED)\n"),
+    ("2 asked after the text",
+     "    refuse_unequal(before, after)\n",
+     "    read_tag(mm, ml, before)\n    refuse_unequal(before, after)\n"),
+    ("room one short is taken",
+     "need > lent",
+     "need > lent + 1"),
+    ("a step clears the bytes past the new lengths",
+     "return new + buffer[len(new) :]",
+     "return new + bytes(len(buffer) - len(new))"),
+    ("the tally's above from 129",
+     "value >= 128",
+     "value > 128"),
+    ("a reverse walk off by one",
+     "return found[::-1] if reverse else found",
+     "return [place and place + 1 for place in found[::-1]] if reverse else found"),
+    ("hard clips are in the query",
+     "UNPLACED = (INSERTION, SOFT_CLIP)",
+     "UNPLACED = (INSERTION, SOFT_CLIP, HARD_CLIP)"),
+    ("an unknown kind past the 65,535th word missed",
+     "for _, kind in operations), BAD_KIND_OR_START)",
+     "for _, kind in operations[:MOST_WORDS]), BAD_KIND_OR_START)"),
+    ("CpG at the slice's end",
+     'reference[first : first + 2].upper() == b"CG"',
+     'reference[first : first + 2].upper() in (b"CG", b"C")'),
+    ("negative places counted from the end",
+     "reference[place] if 0 <= place < len(reference) else 0",
+     "reference[place] if -len(reference) <= place < len(reference) else 0"),
+    ("only 1 means aligned",
+     "if count_all or aligned[first + i]:",
+     "if count_all or aligned[first + i] == 1:"),
+    ("read bases match in upper case alone",
+     "letters = read.upper()",
+     "letters = read"),
+    ("invented counts beyond a read's end",
+     "            if i >= len(letters):\n                break\n",
+     "            if i >= len(letters):\n                unconverted[i] += 1\n                continue\n"),
+    ("gating keeps a count",
+     "gated_con = [count if yes else 0 for yes, count in zip(inf, con)]",
+     "gated_con = con"),
+    ("counts clamped at 32,768",
+     "LARGEST_TAG_COUNT = 32_767",
+     "LARGEST_TAG_COUNT = 32_768"),
+    ("restoring keeps the case",
+     "kept if yes and letter == changed else base",
+     "kept | base & 32 if yes and letter == changed else base"),
+    ("lower case not matched in building",
+     "for i, letter in enumerate(seq.upper()):",
+     "for i, letter in enumerate(seq):"),
+    ("TAPs counts the unconverted",
+     'unc[i] if mode == "E" else con[i]',
+     "unc[i]"),
+    ("G to A first in the join",
+     'strands[k][0] != "C"',
+     'strands[k][0] != "G"'),
+    ("duplex restores by the first strand alone",
+     "    for pattern, inf, _, _ in strands:\n",
+     "    for pattern, inf, _, _ in strands[:1]:\n"),
+    ("one base over the domain accepted",
+     "MOST_BASES = 16_000\n",
+     "MOST_BASES = 16_001\n"),
+]
+
+
+def model_text():
+    with open(os.path.join(rust.HERE, "model.py"), encoding="utf-8") as file:
+        return file.read()
+
+
+def model_with(text, name="the model"):
+    model = types.ModuleType(name)
+    exec(compile(text, name, "exec"), model.__dict__)
+    return model
+
+
+def with_fault(text, name, old, new):
+    if text.count(old) != 1:
+        sys.exit(f"the fault '{name}' applies {text.count(old)} times, not once")
+    return text.replace(old, new)
+
+
+def modest_list():
+    """Requests of every call and the Rust's answers; the boundary ones, few and large, are left out."""
+    program = rust.driver()
+    pairs = []
+    for call in generate.CALLS:
+        sections = generate.sections(call, SEED, SHARE)
+        requests = sections["short"] + sections["random"]
+        pairs += zip(requests, rust.answers(program, requests))
+    return pairs
+
+
+def noticed_by_rust(model, pairs):
+    """The first request on which the model and the Rust disagree."""
+    for line, rust_answer in pairs:
+        try:
+            compare.judge(line, rust_answer, model)
+        except compare.Disagreement:
+            return line
+    return None
+
+
+def noticed_as_stated(model):
+    """The name of the first stated answer that the model doesn't give."""
+    for name, line, answer in stated.REQUESTS:
+        if model.answer(line) != answer:
+            return name
+    return None
+
+
+def main():
+    text, pairs = model_text(), modest_list()
+    sound = model_with(text)
+    if noticed_by_rust(sound, pairs) or noticed_as_stated(sound):
+        sys.exit("the model without a fault does not agree; run compare.py")
+    noticed = 0
+    for name, old, new in FAULTS:
+        model = model_with(with_fault(text, name, old, new), name)
+        line, statement = noticed_by_rust(model, pairs), noticed_as_stated(model)
+        noticed += bool(line or statement)
+        ways = [f"the Rust at {compare.shorten(line)!r}"] if line else []
+        ways += [f"the stated '{statement}'"] if statement else []
+        print(f"{name}: " + ("noticed by " + " and ".join(ways) if ways else "NOT NOTICED"))
+    print(f"{len(FAULTS)} faults, {noticed} noticed")
+    sys.exit(noticed != len(FAULTS))
+
+
+if __name__ == "__main__":
+    main()

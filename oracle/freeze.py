@@ -1,0 +1,187 @@
+#!/usr/bin/env python3
+"""Freezes requests and their answers, so that a gate can hold the program `ask` against them.
+
+    python3 oracle/freeze.py            # writes oracle/frozen/CALL.requests and CALL.answers for every call
+    python3 oracle/freeze.py --ask      # writes crates/ask/stdin and stdout from the lists of the answered calls
+    python3 oracle/freeze.py --check    # writes nothing: are the lists and crates/ask as they would be written?
+
+The answers are the model's; while freezing, the Rust is held against each of them, and nothing is written where
+the two disagree. The calls that `ask` answers so far stand in oracle/answered.txt, one a line.
+`--check` takes no Rust: it asks the model for each answer again.
+"""
+import argparse
+import collections
+import os
+import random
+import sys
+
+import compare
+import generate
+import model
+import rust
+
+SEED = 20_260
+FROZEN = os.path.join(rust.HERE, "frozen")
+ANSWERED = os.path.join(rust.HERE, "answered.txt")
+ASK = os.path.join(rust.HERE, "..", "crates", "ask")
+
+# At most so many requests of each section; a section that is not named comes whole.
+MOST = {"short": 400, "random": 600, "malformed": 70}
+WHOLE = {"PAT": ("short",)}
+# Boundary requests are large: those of a call, with their answers, take no more than so many bytes together.
+BOUNDARY_BYTES = {
+    "Q": 110_000, "CPG": 0, "PAT": 10_000, "FETCH": 150_000, "ANN": 260_000, "GATE": 230_000, "TRUNC": 230_000,
+    "CNT": 180_000, "REST": 110_000, "BUILD": 240_000, "BUILDMM": 60_000, "DUP": 60_000, "CALLS": 100_000,
+    "TALLY": 330_000, "MASK": 330_000, "DROP": 330_000, "CUT": 330_000, "STEP": 330_000,
+}
+# A larger request, with its answer, is compared in every run of compare.py and not frozen.
+LARGEST = 500_000
+LEAST_OF_EACH_NUMBER, SHORT_LINE = 8, 2_000
+
+
+def number_of(answer):
+    return answer.split("\t", 1)[0]
+
+
+def size_of(line):
+    return len(line) + len(model.answer(line))
+
+
+def within(requests, most_bytes):
+    """The first requests that, with their answers, together take no more than so many bytes."""
+    chosen, left = [], most_bytes
+    for line in requests:
+        if size_of(line) <= left:
+            chosen.append(line)
+            left -= size_of(line)
+    return chosen
+
+
+def part_of(rng, call, name, requests):
+    if name == "boundary":
+        return within(requests, BOUNDARY_BYTES[call])
+    if name in WHOLE.get(call, ()) or name not in MOST or len(requests) <= MOST[name]:
+        return requests
+    kept = set(rng.sample(range(len(requests)), MOST[name]))
+    return [line for place, line in enumerate(requests) if place in kept]
+
+
+def missing_numbers(chosen, every):
+    """Further requests, so that each number that the call can answer with stands there several times, or once
+    where it takes a large request."""
+    seen = collections.Counter(number_of(model.answer(line)) for line in chosen)
+    present, more = set(chosen), []
+    for line in sorted(every, key=len):
+        number = number_of(model.answer(line))
+        wanted = LEAST_OF_EACH_NUMBER if len(line) < SHORT_LINE else 1
+        if line not in present and seen[number] < wanted:
+            seen[number] += 1
+            more.append(line)
+    return more
+
+
+def list_for(call):
+    """The requests to freeze for a call, each once."""
+    rng = random.Random(f"freeze {call}")
+    sections = generate.sections(call, SEED, 1.0)
+    chosen = [line for name, found in sections.items() for line in part_of(rng, call, name, found)]
+    every = [line for found in sections.values() for line in found]
+    found = dict.fromkeys(chosen + missing_numbers(chosen, every))
+    return [line for line in found if size_of(line) <= LARGEST]
+
+
+def path_of(call, kind):
+    return os.path.join(FROZEN, f"{call}.{kind}")
+
+
+def write_lines(path, found):
+    with open(path, "w", encoding="latin-1", newline="\n") as file:
+        file.writelines(line + "\n" for line in found)
+
+
+def freeze():
+    program = rust.driver()
+    frozen = {call: list_for(call) for call in generate.CALLS}
+    counts = compare.Counts()
+    for requests in frozen.values():
+        for line, rust_answer in zip(requests, rust.answers(program, requests)):
+            counts.add(line, rust_answer, model)
+    compare.print_disagreements(counts.disagreements, sys.stdout)
+    unlike = compare.not_as_stated(model, generate.CALLS)
+    compare.print_disagreements(unlike, sys.stdout)
+    if counts.disagreements or unlike:
+        sys.exit("Rust, model and the stated answers do not agree; nothing was frozen")
+    os.makedirs(FROZEN, exist_ok=True)
+    for call, requests in frozen.items():
+        write_lines(path_of(call, "requests"), requests)
+        write_lines(path_of(call, "answers"), map(model.answer, requests))
+    counts.print_table(sys.stdout)
+
+
+def answered_calls():
+    with open(ANSWERED, encoding="ascii") as file:
+        return generate.call_list(",".join(file.read().split()))
+
+
+def joined(kind, calls):
+    found = []
+    for call in calls:
+        found += compare.read_lines(path_of(call, kind))
+    return found
+
+
+def write_ask():
+    calls = answered_calls()
+    write_lines(os.path.join(ASK, "stdin"), joined("requests", calls))
+    write_lines(os.path.join(ASK, "stdout"), joined("answers", calls))
+    print(f"crates/ask: {len(joined('requests', calls)):,} requests of {', '.join(calls)}")
+
+
+def faults_of_list(call):
+    requests, answers = (compare.read_lines(path_of(call, kind)) for kind in ("requests", "answers"))
+    if len(requests) != len(answers):
+        return [f"{call}: {len(requests)} requests, {len(answers)} answers"]
+    wrong = [line for line, answer in zip(requests, answers) if model.answer(line) != answer]
+    return [f"{call}: the frozen answer is not the model's: {compare.shorten(line)}" for line in wrong]
+
+
+def is_joined(name, kind, calls):
+    """Whether a file of crates/ask holds the joined lists of the calls."""
+    path = os.path.join(ASK, name)
+    return os.path.isfile(path) and compare.read_lines(path) == joined(kind, calls)
+
+
+def faults_of_ask():
+    calls = answered_calls()
+    return [
+        f"crates/ask/{name} is not the joined lists of {', '.join(calls)}"
+        for name, kind in (("stdin", "requests"), ("stdout", "answers"))
+        if not is_joined(name, kind, calls)
+    ]
+
+
+def check():
+    found = [fault for call in generate.CALLS for fault in faults_of_list(call)] + faults_of_ask()
+    for fault in found[: compare.SHOWN]:
+        print(fault)
+    count = len(joined("requests", generate.CALLS))
+    print(f"frozen lists: {count:,} requests of {len(generate.CALLS)} calls, {len(found)} faults")
+    sys.exit(bool(found))
+
+
+def main():
+    parser = argparse.ArgumentParser(description=__doc__, formatter_class=argparse.RawDescriptionHelpFormatter)
+    mode = parser.add_mutually_exclusive_group()
+    mode.add_argument("--ask", action="store_true", help="write crates/ask/stdin and stdout")
+    mode.add_argument("--check", action="store_true", help="check the lists and crates/ask, writing nothing")
+    options = parser.parse_args()
+    if options.ask:
+        write_ask()
+    elif options.check:
+        check()
+    else:
+        freeze()
+
+
+if __name__ == "__main__":
+    main()

@@ -1,0 +1,45 @@
+"""Builds and runs the Rust driver, or says plainly what is missing for it."""
+import os
+import shutil
+import subprocess
+import sys
+
+HERE = os.path.dirname(os.path.abspath(__file__))
+NOT_AT_HAND = 3  # the exit status where nothing could be compared
+
+
+def source_folder():
+    return os.environ.get("FGUMI_SRC") or os.path.join(HERE, "..", "..", "shared", "docs", "src")
+
+
+def missing():
+    """What the driver lacks, as a sentence, or None."""
+    if shutil.which("cargo") is None:
+        return "cargo is not at hand, so the Rust can't be compiled"
+    original = os.path.join(source_folder(), "crates", "fgumi-consensus", "src", "modifications.rs")
+    if not os.path.isfile(original):
+        return "the Rust files are not at hand: FGUMI_SRC, or else ../shared/docs/src, has no crates/fgumi-consensus"
+    return None
+
+
+def driver():
+    """The path of the built driver; leaves with a sentence where it can't be built."""
+    lack = missing()
+    if lack:
+        sys.stderr.write(lack + "; nothing was compared with it\n")
+        sys.exit(NOT_AT_HAND)
+    folder = os.environ.get("CARGO_TARGET_DIR") or os.path.join(HERE, "target")
+    command = ["cargo", "build", "--release", "--offline", "--locked", "--quiet", "--target-dir", folder]
+    environment = {**os.environ, "FGUMI_SRC": os.path.abspath(source_folder())}
+    subprocess.run(command, cwd=HERE, check=True, env=environment)
+    return os.path.join(folder, "release", "fgumi-oracle")
+
+
+def answers(program, requests):
+    """The program's answer lines to a list of request lines."""
+    given = "".join(line + "\n" for line in requests).encode("latin-1")
+    found = subprocess.run([program], input=given, stdout=subprocess.PIPE, check=True).stdout
+    lines = found.decode("latin-1").split("\n")
+    if lines.pop() != "" or len(lines) != len(requests):
+        raise RuntimeError(f"{program} gave {len(lines)} answers to {len(requests)} requests")
+    return lines
