@@ -1,15 +1,15 @@
 -- Laws of the tests over a list, of lists that are known from a place on, and of the tests at a place that a loop has come to.
 -- Assumes nothing.
 use mathlib.Core.Path.{_≡_, refl, sym, ap, _∙_}
-use mathlib.Core.Bool.{Bool, true, false, cond, not, _&&_, _||_}
+use mathlib.Core.Bool.{Bool, true, false, not, _&&_, _||_}
 use mathlib.Core.List.{List, [], _∷_, _++_, map, append-assoc}
-use Prim.Native.Nat.{ℕ, zero, suc, _+_, _≤_, _<_}
+use Prim.Native.Nat.{ℕ, zero, suc, _+_, _-_, _≤_, _<_}
 use native.Mathlib.Nat.{suc-ne-zero}
 use native.Mathlib.Numerals.{add-one}
 use native.Mathlib.Omega.{arith}
 use lib.ListN.{length, getD, take, drop, drop-of-length-le}
-use lib.Seq.{drop-cons}
-use Rattle.lent.specs.Lists.{every, any, filter, isEmpty, lastOr, concatMap, among}
+use lib.Seq.{drop-cons, take-nil}
+use Rattle.lent.specs.Lists.{every, any, filter, lastOr, concatMap}
 use Rattle.lent.proofs.Tests.{by-test, and-true, and-true-l, and-true-r}
 
 module _ {A : Type 0} where
@@ -62,6 +62,10 @@ module _ {A : Type 0} where
   pub agree-all : (s t : A → Bool) → ((x : A) → s x ≡ t x) → (xs : List A) → Agree s t xs
   agree-all s t f [] = tt
   agree-all s t f (x ∷ xs) = (f x, agree-all s t f xs)
+
+  pub agree-imp : (s t s′ t′ : A → Bool) → ((x : A) → s x ≡ t x → s′ x ≡ t′ x) → (xs : List A) → Agree s t xs → Agree s′ t′ xs
+  agree-imp s t s′ t′ f [] g = tt
+  agree-imp s t s′ t′ f (x ∷ xs) g = (f x (g .0), agree-imp s t s′ t′ f xs (g .1))
 
   pub filter-agree : (s t : A → Bool) (xs : List A) → Agree s t xs → filter s xs ≡ filter t xs
   filter-agree s t [] a = refl
@@ -125,6 +129,12 @@ module _ {A : Type 0} where
   take-whole (suc n) [] e = refl
   take-whole (suc n) (x ∷ xs) e = ap (λ (r : List A). x ∷ r) (take-whole n xs e)
 
+  pub drop-take : (f n : ℕ) (xs : List A) → drop f (take n xs) ≡ take (n - f) (drop f xs)
+  drop-take zero n xs = let e : n ≡ n - 0 = omega arith in ap (λ (k : ℕ). take k xs) e
+  drop-take (suc f) zero xs = let z : 0 - suc f ≡ 0 = omega arith in rw z
+  drop-take (suc f) (suc n) [] = sym (take-nil (suc n - suc f))
+  drop-take (suc f) (suc n) (x ∷ xs) = let e : n - f ≡ suc n - suc f = omega arith in drop-take f n xs ∙ ap (λ (k : ℕ). take k (drop f xs)) e
+
   pub empty-of-length : (xs : List A) → length xs ≡ 0 → xs ≡ []
   empty-of-length [] e = refl
   empty-of-length (x ∷ xs) e = absurd (suc-ne-zero (length xs) e)
@@ -141,6 +151,11 @@ module _ {A B : Type 0} where
   pub map-ext : (f g : A → B) → ((x : A) → f x ≡ g x) → (xs : List A) → map f xs ≡ map g xs
   map-ext f g h [] = refl
   map-ext f g h (x ∷ xs) = rw (h x, map-ext f g h xs)
+
+  -- two functions that agree on what passes the test
+  pub map-kept : (t : A → Bool) (f g : A → B) → ((x : A) → t x ≡ true → f x ≡ g x) → (xs : List A) → map f (filter t xs) ≡ map g (filter t xs)
+  map-kept t f g h [] = refl
+  map-kept t f g h (x ∷ xs) = by-test (t x) (λ e. rw (e, h x e, map-kept t f g h xs)) (λ e. rw e (map-kept t f g h xs))
 
   pub concatMap-append : (f : A → List B) (xs ys : List A) → concatMap f (xs ++ ys) ≡ concatMap f xs ++ concatMap f ys
   concatMap-append f [] ys = refl

@@ -1,10 +1,9 @@
 -- The definitions of case and pattern at worked values, by computation.
 -- Assumes nothing.
 use mathlib.Core.Path.{_≡_, refl}
-use Prim.Native.Nat.{ℕ}
 use mathlib.Core.Bool.{true, false}
 use Rattle.pattern.specs.Case.{upper, sameInAnyCase}
-use Rattle.pattern.specs.Patterns.{patternOf, basesOf, letterOf, signOf}
+use Rattle.pattern.specs.Patterns.{patternOf, basesOf, letterOf}
 use Rattle.pattern.specs.declared.ConversionPattern.the-variants.{CToT, GToA}
 
 -- 'a' and 'z', and the bytes beside the letters: '`' and '{' stay, and so does a byte above 127

@@ -1,0 +1,389 @@
+-- Over upper-case bases, reading a built tag gives back exactly the calls that it was built from, for one strand and for two, in SAMtags' words;
+-- and a tag that is built for two strands takes at most 64,010 bytes.
+-- Assumes nothing.
+use mathlib.Core.Path.{_≡_, refl, ap, _∙_, subst}
+use Prim.Native.Nat.{ℕ, suc, _+_, _*_, _≤_}
+use native.Mathlib.Omega.{arith}
+use mathlib.Core.Bool.{Bool, true, false, cond, not, _&&_}
+use mathlib.Core.List.{List, [], _∷_, _++_, map}
+use mathlib.Core.Option.{Option, none, some}
+use lib.ListN.{length, length-append, length-map}
+use lib.Dec.{leb, eqb}
+use borrow.Author.Tests.{eqb-true}
+use Rattle.lent.specs.Lists.{every, filter, isEmpty, concatMap}
+use Rattle.lent.proofs.Tests.{by-test, and-true, and-true-l, and-true-r, eqb-sym}
+use Rattle.lent.proofs.Lists.{every-filter}
+use Rattle.pattern.specs.Case.{upper, sameInAnyCase}
+use Rattle.pattern.specs.Patterns.{letterOf, isEnabled}
+use Rattle.pattern.specs.declared.ConversionPattern.{ConversionPattern}
+use Rattle.pattern.specs.declared.ConversionPattern.the-variants.{CToT, GToA}
+use Rattle.pattern.specs.declared.MethylationMode.{MethylationMode}
+use Rattle.samtags.specs.Bytes.{comma, semicolon}
+use Rattle.samtags.specs.Decimal.{digits}
+use Rattle.samtags.specs.Text.{baseOf}
+use Rattle.samtags.specs.Outcome.{done}
+use Rattle.samtags.specs.Spots.{Spot, bare, call, placeOf, valuesOf, Group, Call, Listing, callsIn, listing, holds, placesFrom, tracked}
+use Rattle.samtags.specs.Reading.{valuesIf, lists}
+use Rattle.samtags.specs.Writing.{Tag, skipsFrom, entriesText, groupText, textOf, mlOf, written}
+use Rattle.samtags.specs.Building.{Evidence, calledAt, spotAt, headerOf, strandGroup, hasCalls, buildTag, evidenceInDomain, evidenceAgrees, secondFirst, inJoinOrder, joinedGroups, joinedTag, callAt, callsFrom, evidenceCalls}
+use Rattle.samtags.proofs.Outcome.{done-inj, need-rest}
+use Rattle.samtags.proofs.Decimal.{digits-few}
+use Rattle.samtags.proofs.ReadWritten.{sized, Fits, AllFit}
+use Rattle.samtags.proofs.Places.{places-length}
+use Rattle.samtags.proofs.Steps.{map-some, read-back}
+use Rattle.samtags.proofs.Names.{upperCase}
+use Rattle.samtags.proofs.ReadMeans.{noU, Read-means, reading-means}
+
+-- ---- over upper-case bases the builder's places are the reader's
+
+-- a pattern's letter is in upper case, and not N
+letter-upper : (p : ConversionPattern) → upper (letterOf p) ≡ letterOf p
+unfolding upper
+letter-upper CToT = refl
+letter-upper GToA = refl
+
+letter-not-n : (p : ConversionPattern) → eqb (letterOf p) 78 ≡ false
+letter-not-n CToT = refl
+letter-not-n GToA = refl
+
+letter-base : (p : ConversionPattern) → baseOf (headerOf p) ≡ letterOf p
+unfolding baseOf upper
+letter-base CToT = refl
+letter-base GToA = refl
+
+any-case-is : (p : ConversionPattern) (x : ℕ) → upper x ≡ x → sameInAnyCase (letterOf p) x ≡ eqb x (letterOf p)
+unfolding sameInAnyCase
+any-case-is p x u = rw (letter-upper p, u) (eqb-sym (letterOf p) x)
+
+holds-is : (p : ConversionPattern) (x : ℕ) → holds (letterOf p) x ≡ eqb x (letterOf p)
+unfolding holds
+holds-is p x = rw (letter-not-n p)
+
+places-same : (p : ConversionPattern) (i : ℕ) (xs : List ℕ) → upperCase xs ≡ true
+    → placesFrom (sameInAnyCase (letterOf p)) i xs ≡ placesFrom (holds (letterOf p)) i xs
+places-same p i [] u = refl
+places-same p i (x ∷ xs) u =
+    let ux : upper x ≡ x = eqb-true (upper x) x (and-true-l (eqb (upper x) x) (upperCase xs) u) in
+    rw (any-case-is p x ux, holds-is p x, places-same p (suc i) xs (and-true-r (eqb (upper x) x) (upperCase xs) u))
+
+-- ---- with and without ML
+
+-- a call with its values, or with none where there is no ML
+abbrev pub valuedCall : Bool → Call → Call
+valuedCall ml? c = record { place = c .place; values = cond ml? (c .values) [] }
+
+abbrev valued : Bool → Spot → Spot
+valued ml? (bare p) = bare p
+valued ml? (call p vs) = call p (cond ml? vs [])
+
+abbrev valuedGroup : Bool → Group → Group
+valuedGroup ml? g = record { header = g .header; spots = map (valued ml?) (g .spots) }
+
+skips-valued : (ml? : Bool) (n : ℕ) (ss : List Spot) → skipsFrom n (map (valued ml?) ss) ≡ skipsFrom n ss
+skips-valued ml? n [] = refl
+skips-valued ml? n (bare p ∷ ss) = skips-valued ml? (suc n) ss
+skips-valued ml? n (call p vs ∷ ss) = ap (λ (r : List ℕ). n ∷ r) (skips-valued ml? 0 ss)
+
+text-valued : (ml? : Bool) (gs : List Group) → textOf (map (valuedGroup ml?) gs) ≡ textOf gs
+unfolding textOf
+text-valued ml? [] = refl
+text-valued ml? (g ∷ gs) = rw (skips-valued ml? 0 (g .spots), text-valued ml? gs)
+
+values-valued : (ss : List Spot) → concatMap valuesOf (map (valued true) ss) ≡ concatMap valuesOf ss
+values-valued [] = refl
+values-valued (bare p ∷ ss) = values-valued ss
+values-valued (call p vs ∷ ss) = ap (λ (r : List ℕ). vs ++ r) (values-valued ss)
+
+ml-valued : (gs : List Group) → mlOf (map (valuedGroup true) gs) ≡ mlOf gs
+unfolding mlOf
+ml-valued [] = refl
+ml-valued (g ∷ gs) = rw (values-valued (g .spots), ml-valued gs)
+
+ml-lent : (ml? : Bool) (gs : List Group) (lent : List ℕ) → cond ml? (mlOf (map (valuedGroup ml?) gs)) lent ≡ cond ml? (mlOf gs) lent
+ml-lent true gs lent = ml-valued gs
+ml-lent false gs lent = refl
+
+calls-valued : (ml? : Bool) (ss : List Spot) → callsIn (map (valued ml?) ss) ≡ map (valuedCall ml?) (callsIn ss)
+calls-valued ml? [] = refl
+calls-valued ml? (bare p ∷ ss) = calls-valued ml? ss
+calls-valued ml? (call p vs ∷ ss) = ap (λ (r : List Call). record { place = p; values = cond ml? vs [] } ∷ r) (calls-valued ml? ss)
+
+-- ---- a strand's group fits
+
+spots-places : (ml? : Bool) (f : ℕ → Option ℕ) (ps : List ℕ) → map placeOf (map (valued ml?) (map (λ q. spotAt (f q) q) ps)) ≡ ps
+spots-places ml? f [] = refl
+spots-places ml? f (p ∷ ps) = rw (one (f p), spots-places ml? f ps)
+  where
+    one : (v : Option ℕ) → placeOf (valued ml? (spotAt v p)) ≡ p
+    one none = refl
+    one (some v) = refl
+
+spots-sized : (ml? : Bool) (f : ℕ → Option ℕ) (ps : List ℕ) → every (sized (cond ml? 1 0)) (map (valued ml?) (map (λ q. spotAt (f q) q) ps)) ≡ true
+spots-sized ml? f [] = refl
+spots-sized ml? f (p ∷ ps) = and-true _ _ (one ml? (f p)) (spots-sized ml? f ps)
+  where
+    one : (ml? : Bool) (v : Option ℕ) → sized (cond ml? 1 0) (valued ml? (spotAt v p)) ≡ true
+    one ml? none = refl
+    one true (some v) = refl
+    one false (some v) = refl
+
+one-value : (ml? : Bool) (p : ConversionPattern) → valuesIf ml? (headerOf p) ≡ cond ml? 1 0
+unfolding valuesIf
+one-value true CToT = refl
+one-value true GToA = refl
+one-value false p = refl
+
+strand-fits : (ml? : Bool) (mode : MethylationMode) (p : ConversionPattern) (ev : Evidence) (seq : List ℕ) → upperCase seq ≡ true
+    → Fits ml? seq (valuedGroup ml? (strandGroup mode p ev seq))
+unfolding strandGroup tracked
+strand-fits ml? mode p ev seq u = record {
+  long = long-header p;
+  no-comma = no-comma-in p;
+  no-semi = no-semi-in p;
+  low = low-header p;
+  places = spots-places ml? (calledAt mode ev) (placesFrom (sameInAnyCase (letterOf p)) 0 seq) ∙ places-same p 0 seq u ∙ rw (letter-base p);
+  sizes = rw (one-value ml? p) (spots-sized ml? (calledAt mode ev) (placesFrom (sameInAnyCase (letterOf p)) 0 seq));
+}
+  where
+    long-header : (p : ConversionPattern) → leb 2 (length (headerOf p)) ≡ true
+    long-header CToT = refl
+    long-header GToA = refl
+
+    no-comma-in : (p : ConversionPattern) → every (λ x. not (eqb x comma)) (headerOf p) ≡ true
+    no-comma-in CToT = refl
+    no-comma-in GToA = refl
+
+    no-semi-in : (p : ConversionPattern) → every (λ x. not (eqb x semicolon)) (headerOf p) ≡ true
+    no-semi-in CToT = refl
+    no-semi-in GToA = refl
+
+    low-header : (p : ConversionPattern) → every (λ b. leb b 127) (headerOf p) ≡ true
+    low-header CToT = refl
+    low-header GToA = refl
+
+-- ---- its calls are those that the evidence gives
+
+one-call : (v : Option ℕ) (i : ℕ) (ss : List Spot) → callsIn (spotAt v i ∷ ss) ≡ callAt true v i (callsIn ss)
+one-call none i ss = refl
+one-call (some v) i ss = refl
+
+calls-from : (mode : MethylationMode) (p : ConversionPattern) (ev : Evidence) (i : ℕ) (xs : List ℕ) → upperCase xs ≡ true
+    → callsIn (map (λ q. spotAt (calledAt mode ev q) q) (placesFrom (sameInAnyCase (letterOf p)) i xs)) ≡ callsFrom i mode p ev xs
+unfolding callsFrom
+calls-from mode p ev i [] u = refl
+calls-from mode p ev i (x ∷ xs) u =
+    let ux : upper x ≡ x = eqb-true (upper x) x (and-true-l (eqb (upper x) x) (upperCase xs) u) in
+    let rest = calls-from mode p ev (suc i) xs (and-true-r (eqb (upper x) x) (upperCase xs) u) in
+    rw (any-case-is p x ux)
+    (by-test (eqb x (letterOf p))
+    (λ e. rw e (one-call (calledAt mode ev i) i (map (λ q. spotAt (calledAt mode ev q) q) (placesFrom (sameInAnyCase (letterOf p)) (suc i) xs)) ∙ ap (callAt true (calledAt mode ev i) i) rest))
+    (λ e. rw e rest))
+
+strand-calls : (mode : MethylationMode) (p : ConversionPattern) (ev : Evidence) (seq : List ℕ) → upperCase seq ≡ true
+    → callsIn (strandGroup mode p ev seq .spots) ≡ evidenceCalls mode p ev seq
+unfolding strandGroup evidenceCalls
+strand-calls mode p ev seq u = calls-from mode p ev 0 seq u
+
+-- ---- what the tag lists
+
+-- the listing that the evidence of a strand gives
+abbrev pub evidenceListing : Bool → MethylationMode → ConversionPattern → Evidence → List ℕ → Listing
+evidenceListing ml? mode p ev seq = record { header = headerOf p; calls = map (valuedCall ml?) (evidenceCalls mode p ev seq) }
+
+strand-lists : (ml? : Bool) (mode : MethylationMode) (p : ConversionPattern) (ev : Evidence) (seq : List ℕ) → upperCase seq ≡ true
+    → listing (valuedGroup ml? (strandGroup mode p ev seq)) ≡ evidenceListing ml? mode p ev seq
+unfolding strandGroup
+strand-lists ml? mode p ev seq u =
+    ap (λ (cs : List Call). record { header = headerOf p; calls = cs })
+    (calls-valued ml? (strandGroup mode p ev seq .spots) ∙ ap (map (valuedCall ml?)) (strand-calls mode p ev seq u))
+
+-- groups of strands, of which there is one, are read back with their calls
+groups-read-back : (ml? : Bool) (seq : List ℕ) (gs : List Group) (lent : List ℕ) → AllFit ml? seq (map (valuedGroup ml?) gs) → isEmpty gs ≡ false
+    → lists ml? seq (written gs .text) (cond ml? (written gs .ml) lent) ≡ done (map listing (map (valuedGroup ml?) gs))
+unfolding lists written
+groups-read-back ml? seq gs lent f e =
+    rw (← text-valued ml? gs, ← ml-lent ml? gs lent, read-back ml? seq (map (valuedGroup ml?) gs) lent f (map-some (valuedGroup ml?) gs e))
+
+-- ---- one strand
+
+no-u : (ml? : Bool) (mode : MethylationMode) (p : ConversionPattern) (ev : Evidence) (seq : List ℕ)
+    → eqb (baseOf (evidenceListing ml? mode p ev seq .header)) 85 ≡ false
+no-u ml? mode p ev seq = rw (letter-base p) (letter p)
+  where
+    letter : (p : ConversionPattern) → eqb (letterOf p) 85 ≡ false
+    letter CToT = refl
+    letter GToA = refl
+
+-- What is built, with and without ML and whatever the room, is accepted by the reader and lists exactly the calls of the evidence.
+pub built-is-read : (ml? : Bool) (mode : MethylationMode) (p : ConversionPattern) (ev : Evidence) (seq : List ℕ) (t m : ℕ) (r : Tag) (lent : List ℕ)
+    → upperCase seq ≡ true → buildTag ml? mode p ev seq t m ≡ done r
+    → lists ml? seq (r .text) (cond ml? (r .ml) lent) ≡ done (evidenceListing ml? mode p ev seq ∷ [])
+unfolding buildTag
+built-is-read ml? mode p ev seq t m r lent u e =
+    let g = strandGroup mode p ev seq in
+    let e₂ = need-rest (evidenceInDomain ev seq) 1 _ r e in
+    let e₃ = need-rest (evidenceAgrees ev seq) 2 _ r e₂ in
+    let e₄ = need-rest (isEnabled mode && hasCalls g) 20 _ r e₃ in
+    let w = written (g ∷ []) in
+    let same : w ≡ r = done-inj (need-rest (leb (length (w .text)) t && cond ml? (leb (length (w .ml)) m) true) 12 (done w) r e₄) in
+    subst (λ (q : Tag). lists ml? seq (q .text) (cond ml? (q .ml) lent) ≡ done (evidenceListing ml? mode p ev seq ∷ [])) same
+    (groups-read-back ml? seq (g ∷ []) lent (strand-fits ml? mode p ev seq u, tt) refl
+    ∙ ap (λ (l : Listing). done (l ∷ [])) (strand-lists ml? mode p ev seq u))
+
+-- The same in SAMtags' words.
+pub built-means : (ml? : Bool) (mode : MethylationMode) (p : ConversionPattern) (ev : Evidence) (seq : List ℕ) (t m : ℕ) (r : Tag) (lent : List ℕ)
+    → upperCase seq ≡ true → buildTag ml? mode p ev seq t m ≡ done r
+    → Read-means ml? seq (r .text) (cond ml? (r .ml) lent) (evidenceListing ml? mode p ev seq ∷ [])
+built-means ml? mode p ev seq t m r lent u e =
+    reading-means ml? seq (r .text) (cond ml? (r .ml) lent) (evidenceListing ml? mode p ev seq ∷ [])
+    (built-is-read ml? mode p ev seq t m r lent u e) u (rw (no-u ml? mode p ev seq))
+
+-- ---- two strands
+
+-- the listings of the strands that have a call, C to T first
+abbrev pub joinedListings : Bool → MethylationMode → ConversionPattern → Evidence → ConversionPattern → Evidence → List ℕ → List Listing
+joinedListings ml? mode p ev q ew seq =
+    cond (isEnabled mode)
+    (filter (λ (l : Listing). not (isEmpty (l .calls))) (inJoinOrder p q (evidenceListing ml? mode p ev seq) (evidenceListing ml? mode q ew seq)))
+    []
+
+all-fit-filter : (ml? : Bool) (seq : List ℕ) (t : Group → Bool) (gs : List Group) → AllFit ml? seq (map (valuedGroup ml?) gs)
+    → AllFit ml? seq (map (valuedGroup ml?) (filter t gs))
+all-fit-filter ml? seq t [] f = tt
+all-fit-filter ml? seq t (g ∷ gs) f =
+    by-test (t g) (λ e. rw e (f .0, all-fit-filter ml? seq t gs (f .1))) (λ e. rw e (all-fit-filter ml? seq t gs (f .1)))
+
+some-valued : (ml? : Bool) (ss : List Spot) → isEmpty (callsIn (map (valued ml?) ss)) ≡ isEmpty (callsIn ss)
+some-valued ml? [] = refl
+some-valued ml? (bare p ∷ ss) = some-valued ml? ss
+some-valued ml? (call p vs ∷ ss) = refl
+
+-- a group has calls just where its listing has
+lists-filter : (ml? : Bool) (gs : List Group)
+    → map listing (map (valuedGroup ml?) (filter hasCalls gs)) ≡ filter (λ (l : Listing). not (isEmpty (l .calls))) (map listing (map (valuedGroup ml?) gs))
+lists-filter ml? [] = refl
+lists-filter ml? (g ∷ gs) =
+    rw (some-valued ml? (g .spots))
+    (by-test (isEmpty (callsIn (g .spots))) (λ e. rw e (lists-filter ml? gs)) (λ e. rw (e, lists-filter ml? gs)))
+
+module _ (ml? : Bool) (mode : MethylationMode) (p : ConversionPattern) (ev : Evidence) (q : ConversionPattern) (ew : Evidence) (seq : List ℕ)
+    (u : upperCase seq ≡ true) where
+  both : List Group
+  both = inJoinOrder p q (strandGroup mode p ev seq) (strandGroup mode q ew seq)
+
+  both-fit : AllFit ml? seq (map (valuedGroup ml?) both)
+  unfolding both
+  both-fit =
+      by-test (secondFirst p q)
+      (λ e. rw e (strand-fits ml? mode q ew seq u, (strand-fits ml? mode p ev seq u, tt)))
+      (λ e. rw e (strand-fits ml? mode p ev seq u, (strand-fits ml? mode q ew seq u, tt)))
+
+  both-list : map listing (map (valuedGroup ml?) both) ≡ inJoinOrder p q (evidenceListing ml? mode p ev seq) (evidenceListing ml? mode q ew seq)
+  unfolding both
+  both-list =
+      by-test (secondFirst p q)
+      (λ e. rw (e, strand-lists ml? mode p ev seq u, strand-lists ml? mode q ew seq u))
+      (λ e. rw (e, strand-lists ml? mode p ev seq u, strand-lists ml? mode q ew seq u))
+
+  joined-fit : AllFit ml? seq (map (valuedGroup ml?) (joinedGroups mode p ev q ew seq))
+  unfolding joinedGroups both
+  joined-fit = by-test (isEnabled mode) (λ e. rw e (all-fit-filter ml? seq hasCalls both both-fit)) (λ e. rw e tt)
+
+  joined-list : map listing (map (valuedGroup ml?) (joinedGroups mode p ev q ew seq)) ≡ joinedListings ml? mode p ev q ew seq
+  unfolding joinedGroups both
+  joined-list =
+      by-test (isEnabled mode)
+      (λ e. rw e (lists-filter ml? both ∙ ap (filter (λ (l : Listing). not (isEmpty (l .calls)))) both-list))
+      (λ e. rw e)
+
+  -- What is built for two strands, where it has a call, is accepted by the reader and lists exactly the calls of both, C to T first.
+  pub joined-is-read : (lent : List ℕ) → isEmpty (joinedGroups mode p ev q ew seq) ≡ false
+      → lists ml? seq (joinedTag mode p ev q ew seq .text) (cond ml? (joinedTag mode p ev q ew seq .ml) lent) ≡ done (joinedListings ml? mode p ev q ew seq)
+  unfolding joinedTag
+  joined-is-read lent e = groups-read-back ml? seq (joinedGroups mode p ev q ew seq) lent joined-fit e ∙ ap done joined-list
+
+  strands-no-u : noU (inJoinOrder p q (evidenceListing ml? mode p ev seq) (evidenceListing ml? mode q ew seq)) ≡ true
+  strands-no-u =
+      by-test (secondFirst p q)
+      (λ e. rw (e, no-u ml? mode p ev seq, no-u ml? mode q ew seq))
+      (λ e. rw (e, no-u ml? mode p ev seq, no-u ml? mode q ew seq))
+
+  joined-no-u : noU (joinedListings ml? mode p ev q ew seq) ≡ true
+  joined-no-u =
+      by-test (isEnabled mode)
+      (λ e. rw e (every-filter _ (λ (l : Listing). not (isEmpty (l .calls))) (inJoinOrder p q (evidenceListing ml? mode p ev seq) (evidenceListing ml? mode q ew seq)) strands-no-u))
+      (λ e. rw e)
+
+  -- The same in SAMtags' words.
+  pub joined-means : (lent : List ℕ) → isEmpty (joinedGroups mode p ev q ew seq) ≡ false
+      → Read-means ml? seq (joinedTag mode p ev q ew seq .text) (cond ml? (joinedTag mode p ev q ew seq .ml) lent) (joinedListings ml? mode p ev q ew seq)
+  joined-means lent e =
+      reading-means ml? seq (joinedTag mode p ev q ew seq .text) (cond ml? (joinedTag mode p ev q ew seq .ml) lent) (joinedListings ml? mode p ev q ew seq)
+      (joined-is-read lent e) u joined-no-u
+
+-- ---- how long a built tag is
+
+-- an entry takes at most two bytes for each spot that it passes or lists
+entries-short : (n : ℕ) (ss : List Spot) → length (entriesText (skipsFrom n ss)) ≤ n + 2 * length ss
+entries-short n [] = omega arith
+entries-short n (bare p ∷ ss) = omega (arith, entries-short (suc n) ss)
+entries-short n (call p vs ∷ ss) =
+    omega (arith, digits-few n, length-append (digits n) (entriesText (skipsFrom 0 ss)), entries-short 0 ss)
+
+-- a strand's text and values, over n bases
+abbrev Short : ℕ → Group → Type 0
+Short n g = (length (groupText g) ≤ 2 * n + 5) × (length (concatMap valuesOf (g .spots)) ≤ n)
+
+values-short : (f : ℕ → Option ℕ) (ps : List ℕ) → length (concatMap valuesOf (map (λ q. spotAt (f q) q) ps)) ≤ length ps
+values-short f [] = omega arith
+values-short f (p ∷ ps) = one (f p) (concatMap valuesOf (map (λ q. spotAt (f q) q) ps)) (values-short f ps)
+  where
+    one : (v : Option ℕ) (vs : List ℕ) → length vs ≤ length ps → length (valuesOf (spotAt v p) ++ vs) ≤ suc (length ps)
+    one none vs h = omega arith
+    one (some v) vs h = omega arith
+
+strand-short : (mode : MethylationMode) (p : ConversionPattern) (ev : Evidence) (seq : List ℕ) → Short (length seq) (strandGroup mode p ev seq)
+unfolding strandGroup groupText
+strand-short mode p ev seq =
+    let places = placesFrom (sameInAnyCase (letterOf p)) 0 seq in
+    let spots = map (λ q. spotAt (calledAt mode ev q) q) places in
+    let few = places-length (sameInAnyCase (letterOf p)) 0 seq in (
+      omega (
+        arith,
+        few,
+        length-map places (λ q. spotAt (calledAt mode ev q) q),
+        entries-short 0 spots,
+        length-append (headerOf p) (entriesText (skipsFrom 0 spots)),
+        length-append (headerOf p ++ entriesText (skipsFrom 0 spots)) (semicolon ∷ []),
+      ),
+      omega (arith, few, values-short (calledAt mode ev) places),
+    )
+
+two-short : (n : ℕ) (t : Group → Bool) (g h : Group) → Short n g → Short n h
+    → (length (textOf (filter t (g ∷ h ∷ []))) ≤ 4 * n + 10) × (length (mlOf (filter t (g ∷ h ∷ []))) ≤ 2 * n)
+unfolding textOf mlOf
+two-short n t g h sg sh =
+    by-test (t g)
+    (λ e. rw e (by-test (t h)
+    (λ f. rw f (
+      omega (arith, length-append (groupText g) (groupText h ++ []), length-append (groupText h) []),
+      omega (arith, length-append (concatMap valuesOf (g .spots)) (concatMap valuesOf (h .spots) ++ []), length-append (concatMap valuesOf (h .spots)) []),
+    ))
+    (λ f. rw f (omega (arith, length-append (groupText g) []), omega (arith, length-append (concatMap valuesOf (g .spots)) [])))))
+    (λ e. rw e (by-test (t h)
+    (λ f. rw f (omega (arith, length-append (groupText h) []), omega (arith, length-append (concatMap valuesOf (h .spots)) [])))
+    (λ f. rw f (omega arith, omega arith))))
+
+-- A tag that is built for two strands on at most 16,000 bases takes at most 64,010 bytes of text and 32,000 of ML: it can always be edited.
+pub joined-fits-the-domain : (mode : MethylationMode) (p : ConversionPattern) (ev : Evidence) (q : ConversionPattern) (ew : Evidence) (seq : List ℕ)
+    → length seq ≤ 16000
+    → (length (joinedTag mode p ev q ew seq .text) ≤ 64010) × (length (joinedTag mode p ev q ew seq .ml) ≤ 32000)
+unfolding joinedTag joinedGroups
+joined-fits-the-domain mode p ev q ew seq h =
+    let a = strandGroup mode p ev seq in
+    let b = strandGroup mode q ew seq in
+    by-test (isEnabled mode)
+    (λ e. rw e (by-test (secondFirst p q)
+    (λ f. let s = two-short (length seq) hasCalls b a (strand-short mode q ew seq) (strand-short mode p ev seq) in rw f (omega (arith, s .0), omega (arith, s .1)))
+    (λ f. let s = two-short (length seq) hasCalls a b (strand-short mode p ev seq) (strand-short mode q ew seq) in rw f (omega (arith, s .0), omega (arith, s .1)))))
+    (λ e. rw e (omega arith, omega arith))

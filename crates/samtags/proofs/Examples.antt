@@ -1,0 +1,129 @@
+-- The scope's examples, as one list under one statement, by computation; the session of its program; and a dozen worked values: what SAMtags
+-- tells of its own examples, and the smaller definitions.
+-- Assumes nothing.
+use mathlib.Core.Path.{_≡_, refl}
+use Prim.Native.Nat.{ℕ}
+use Prim.Native.String.{String}
+use mathlib.Core.Bool.{true, false}
+use mathlib.Core.List.{List, [], _∷_, map}
+use mathlib.Core.Option.{none, some}
+use lib.ListN.{replicate}
+use Rattle.samtags.specs.Bytes.{ascii}
+use Rattle.samtags.specs.Decimal.{digits, value}
+use Rattle.samtags.specs.Text.{valuesPer, endsInQuestion}
+use Rattle.samtags.specs.Outcome.{Outcome, done, refuse, andThen}
+use Rattle.samtags.specs.Spots.{Call, Listing}
+use Rattle.samtags.specs.Reading.{readTag, callList}
+use Rattle.samtags.specs.Writing.{Tag}
+use Rattle.samtags.specs.Edits.{maskTag, dropFromTag, cutTag}
+use Rattle.samtags.specs.Session.{Step, mask, dropCalls, cut, Held, run, answers}
+use Rattle.pattern.specs.declared.ConversionPattern.the-variants.{CToT, GToA}
+use Rattle.pattern.specs.declared.MethylationMode.the-variants.{EmSeq}
+use Rattle.samtags.specs.Building.{Evidence, mlValue, joinedTag}
+
+-- the calls of each group: places and values
+unfoldable pub calls : List ℕ → String → List ℕ → Outcome (List (List Call))
+unfolding readTag
+calls seq text ml = andThen (readTag true seq (ascii text) ml) (λ ls. done (map (λ (l : Listing). l .calls) ls))
+
+abbrev pub at : ℕ → List ℕ → Call
+at p vs = record { place = p; values = vs }
+
+abbrev pub tag : String → List ℕ → Outcome Tag
+tag text ml = done (record { text = ascii text; ml = ml })
+
+-- (a) to (j) and (l)
+pub scope-examples :
+    -- (a)
+    (calls (ascii "ACGT") "" [] ≡ refuse 4)
+    -- (b)
+    × (calls (ascii "ACGT") ";" [] ≡ refuse 5)
+    -- (c)
+    × (calls (ascii "ACGT") "C+m?;" [] ≡ done ([] ∷ []))
+    -- (d)
+    × (calls (ascii "CCC") "C+m?,+1;" (7 ∷ []) ≡ refuse 6)
+    -- (e)
+    × (calls (ascii "CCC") "C+m?,2;" (7 ∷ []) ≡ done ((at 2 (7 ∷ []) ∷ []) ∷ []))
+    × (calls (ascii "CCC") "C+m?,3;" (7 ∷ []) ≡ refuse 7)
+    -- (f)
+    × (calls (ascii "C") "C+m?,0;" [] ≡ refuse 8)
+    × (calls (ascii "C") "C+m?,0;" (1 ∷ 2 ∷ []) ≡ refuse 9)
+    × (calls (ascii "C") "C+mh?,0;" (1 ∷ 2 ∷ []) ≡ done ((at 0 (1 ∷ 2 ∷ []) ∷ []) ∷ []))
+    -- (g)
+    × (calls (ascii "C") "C+76792?,0;" (9 ∷ []) ≡ done ((at 0 (9 ∷ []) ∷ []) ∷ []))
+    -- (h)
+    × (dropFromTag true (ascii "C") (0 ∷ []) (ascii "C+m,0;") (7 ∷ []) 100 100 ≡ refuse 10)
+    × (dropFromTag true (ascii "C") (0 ∷ []) (ascii "C+m?,0;") (7 ∷ []) 100 100 ≡ tag "C+m?;" [])
+    -- (i)
+    × (maskTag true (ascii "CCAC") (ascii "CNAC") (ascii "C+m?,0,1;") (7 ∷ 8 ∷ []) 100 100 ≡ tag "C+m?,0,0;" (7 ∷ 8 ∷ []))
+    -- (j)
+    × (mlValue 1 2 ≡ 128)
+    × (mlValue 1 1 ≡ 255)
+    × (mlValue 1 3 ≡ 85)
+    × (mlValue 0 5 ≡ 0)
+    -- (l)
+    × (cutTag true (some 1) (ascii "ACGT") (ascii "CG") (ascii "C+m?,0;") (7 ∷ []) 100 100 ≡ tag "C+m?,0;" (7 ∷ []))
+    × (cutTag true (some 2) (ascii "ACGT") (ascii "CG") (ascii "C+m?,0;") (7 ∷ []) 100 100 ≡ refuse 11)
+    × (cutTag true none (ascii "ACGT") (ascii "CG") (ascii "C+m?,0;") (7 ∷ []) 100 100 ≡ refuse 11)
+unfolding calls dropFromTag maskTag mlValue cutTag
+scope-examples =
+    (refl, refl, refl, refl, refl, refl, refl, refl, refl, refl, refl, refl, refl, refl, refl, refl, refl, refl, refl, refl)
+
+-- the session of the scope's program
+abbrev pub opened : Held
+opened = record { seq = ascii "ACCGTCC"; text = ascii "C+m?,0,1,0;"; ml = 200 ∷ 90 ∷ 30 ∷ [] }
+
+abbrev pub steps : List Step
+steps = mask (1 ∷ []) ∷ dropCalls (5 ∷ []) ∷ cut 3 0 ∷ []
+
+pub session-example :
+    (run true steps opened ≡ record { seq = ascii "GTCC"; text = ascii "C+m?,1;"; ml = 30 ∷ [] })
+    × (answers true steps opened ≡ 0 ∷ 0 ∷ 0 ∷ [])
+unfolding run answers
+session-example = (refl, refl)
+
+-- ---- a dozen more
+
+-- SAMtags: `C+m,5,12,0;` lists the 6th, the 19th and the 20th C; `G-m,14;` the 15th G; `C+mh,5,12;` two codes at the 6th and the 19th C, each
+-- with its two values one after the other
+abbrev pub cs : List ℕ
+cs = replicate 20 67
+
+pub samtags-examples :
+    (calls cs "C+m,5,12,0;" (1 ∷ 2 ∷ 3 ∷ []) ≡ done ((at 5 (1 ∷ []) ∷ at 18 (2 ∷ []) ∷ at 19 (3 ∷ []) ∷ []) ∷ []))
+    × (calls (replicate 20 71) "G-m,14;" (1 ∷ []) ≡ done ((at 14 (1 ∷ []) ∷ []) ∷ []))
+    × (calls cs "C+mh,5,12;" (1 ∷ 2 ∷ 3 ∷ 4 ∷ []) ≡ done ((at 5 (1 ∷ 2 ∷ []) ∷ at 18 (3 ∷ 4 ∷ []) ∷ []) ∷ []))
+unfolding calls
+samtags-examples = (refl, refl, refl)
+
+-- values per base; which mark is the last; decimals; a mask that changes nothing respells, and a cut of nothing leaves the tag unread
+pub worked-values :
+    (map (λ h. valuesPer (ascii h)) ("C+" ∷ "C?" ∷ "C+m?.?" ∷ "C+00" ∷ "C+7m" ∷ "C+.m" ∷ "C+m?x" ∷ []) ≡ 1 ∷ 1 ∷ 1 ∷ 1 ∷ 2 ∷ 2 ∷ 3 ∷ [])
+    × (map (λ h. endsInQuestion (ascii h)) ("C?" ∷ "C+m.?" ∷ "C+m?." ∷ []) ≡ true ∷ true ∷ false ∷ [])
+    × (digits 16000 ≡ ascii "16000")
+    × (value (ascii "00016000") ≡ 16000)
+    × (maskTag true (ascii "C") (ascii "C") (ascii "C+m?,00;") (7 ∷ []) 100 100 ≡ tag "C+m?,0;" (7 ∷ []))
+    × (cutTag true none (ascii "ACGT") (ascii "ACGT") [] [] 0 0 ≡ refuse 21)
+unfolding valuesPer endsInQuestion digits value maskTag cutTag
+worked-values = (refl, refl, refl, refl, refl, refl)
+
+-- the call list: groups from 1, and where each call's values start
+pub call-list-example :
+    andThen (readTag true (ascii "CGC") (ascii "C+mh?,0,0;G-m?;N+n?,2;") (1 ∷ 2 ∷ 3 ∷ 4 ∷ 5 ∷ [])) (λ ls. done (callList ls))
+    ≡ done (
+    record { group = 1; place = 0; start = 0 }
+    ∷ record { group = 1; place = 2; start = 2 }
+    ∷ record { group = 3; place = 2; start = 4 }
+    ∷ [])
+unfolding readTag callList
+call-list-example = refl
+
+-- two strands on CG, the G to A one given first: C to T comes first in the joined tag
+abbrev pub seen : List ℕ → Evidence
+seen informative = record { informative = informative; unconverted = 2 ∷ 2 ∷ []; converted = 1 ∷ 0 ∷ [] }
+
+pub join-example :
+    joinedTag EmSeq GToA (seen (0 ∷ 1 ∷ [])) CToT (seen (1 ∷ 0 ∷ [])) (ascii "CG")
+    ≡ record { text = ascii "C+m?,0;G-m?,0;"; ml = 170 ∷ 255 ∷ [] }
+unfolding joinedTag
+join-example = refl

@@ -1,0 +1,127 @@
+-- Building a tag: which bases are listed, with which skips and values, from SEQ, evidence and chemistry; and the tags of two strands joined.
+-- Assumes nothing.
+use Prim.Native.Nat.{ℕ, suc, _+_, _*_, _/_, min}
+use mathlib.Core.Bool.{Bool, true, false, cond, not, _&&_}
+use mathlib.Core.List.{List, [], _∷_, map}
+use mathlib.Core.Option.{Option, none, some}
+use lib.ListN.{length, getD}
+use lib.Dec.{leb, eqb}
+use Rattle.lent.specs.Lists.{filter, isEmpty}
+use Rattle.pattern.specs.Case.{sameInAnyCase}
+use Rattle.pattern.specs.Patterns.{letterOf, signOf, isEnabled}
+use Rattle.pattern.specs.declared.ConversionPattern.{ConversionPattern}
+use Rattle.pattern.specs.declared.ConversionPattern.the-variants.{CToT, GToA}
+use Rattle.pattern.specs.declared.MethylationMode.{MethylationMode}
+use Rattle.pattern.specs.declared.MethylationMode.the-variants.{Disabled, EmSeq, Taps}
+use Rattle.samtags.specs.Bytes.{ascii}
+use Rattle.samtags.specs.Outcome.{Outcome, done, need}
+use Rattle.samtags.specs.Spots.{Spot, bare, call, Group, Call, callsIn, placesFrom}
+use Rattle.samtags.specs.Writing.{Tag, written}
+use Rattle.samtags.specs.Edits.{inRoom}
+
+-- the evidence of a strand, a column each: whether the place is informative (nonzero is yes), and how many reads show the unconverted and the
+-- converted base
+pub record Evidence : Type 0 where
+  pub informative : List ℕ
+  pub unconverted : List ℕ
+  pub converted : List ℕ
+
+-- the reads that speak for methylation: in EM-Seq what stayed unconverted, in TAPs what was converted
+abbrev pub numerator : MethylationMode → ℕ → ℕ → ℕ
+numerator Disabled u c = 0
+numerator EmSeq u c = u
+numerator Taps u c = c
+
+-- ML's value N stands for probabilities from N/256 up to (N+1)/256, so a probability of 1 is 255
+unfoldable pub mlValue : ℕ → ℕ → ℕ
+mlValue speaking total = min 255 (256 * speaking / total)
+
+-- the ML value of the call at a place, where there is one: the place is informative and a read was counted there
+unfoldable pub calledAt : MethylationMode → Evidence → ℕ → Option ℕ
+unfolding mlValue
+calledAt mode ev p =
+    let u = getD (ev .unconverted) p 0 in
+    let c = getD (ev .converted) p 0 in
+    cond (not (eqb (getD (ev .informative) p 0) 0) && not (eqb (u + c) 0)) (some (mlValue (numerator mode u c) (u + c))) none
+
+-- a base of the pattern's letter, listed where the evidence gives a call
+abbrev pub spotAt : Option ℕ → ℕ → Spot
+spotAt none p = bare p
+spotAt (some v) p = call p (v ∷ [])
+
+-- `C+m?` and `G-m?`: an unlisted base is of unknown status
+abbrev pub headerOf : ConversionPattern → List ℕ
+headerOf p = letterOf p ∷ signOf p ∷ ascii "m?"
+
+-- a strand's group; SEQ's letters match in any case
+unfoldable pub strandGroup : MethylationMode → ConversionPattern → Evidence → List ℕ → Group
+unfolding calledAt sameInAnyCase
+strandGroup mode p ev seq = record {
+  header = headerOf p;
+  spots = map (λ q. spotAt (calledAt mode ev q) q) (placesFrom (sameInAnyCase (letterOf p)) 0 seq);
+}
+
+abbrev pub hasCalls : Group → Bool
+hasCalls g = not (isEmpty (callsIn (g .spots)))
+
+-- ---- the public calls
+
+-- SEQ and the columns are as long as the domain allows
+abbrev pub evidenceInDomain : Evidence → List ℕ → Bool
+evidenceInDomain ev seq =
+    leb (length seq) 16000 && leb (length (ev .informative)) 16000 && leb (length (ev .unconverted)) 16000
+    && leb (length (ev .converted)) 16000
+
+-- SEQ and the columns are of one length
+abbrev pub evidenceAgrees : Evidence → List ℕ → Bool
+evidenceAgrees ev seq =
+    eqb (length (ev .informative)) (length seq) && eqb (length (ev .unconverted)) (length seq)
+    && eqb (length (ev .converted)) (length seq)
+
+-- one strand: 1, 2, 20 where there is no call or no chemistry, last 12. Without ML the room for one is not looked at.
+unfoldable pub buildTag : Bool → MethylationMode → ConversionPattern → Evidence → List ℕ → ℕ → ℕ → Outcome Tag
+unfolding strandGroup written
+buildTag ml? mode p ev seq t m =
+    let g = strandGroup mode p ev seq in
+    need (evidenceInDomain ev seq) 1
+    (need (evidenceAgrees ev seq) 2
+    (need (isEnabled mode && hasCalls g) 20
+    (inRoom ml? t m (done (written (g ∷ []))))))
+
+-- ---- two strands
+
+-- the second strand's group comes first only where it is C to T and the first one is not
+abbrev pub secondFirst : ConversionPattern → ConversionPattern → Bool
+secondFirst CToT q = false
+secondFirst GToA CToT = true
+secondFirst GToA GToA = false
+
+abbrev pub inJoinOrder : {A : Type 0} → ConversionPattern → ConversionPattern → A → A → List A
+inJoinOrder p q a b = cond (secondFirst p q) (b ∷ a ∷ []) (a ∷ b ∷ [])
+
+-- the groups of the joined tag: of the strands in order those that have a call; none where there is no chemistry
+unfoldable pub joinedGroups : MethylationMode → ConversionPattern → Evidence → ConversionPattern → Evidence → List ℕ → List Group
+unfolding strandGroup
+joinedGroups mode p ev q ew seq =
+    cond (isEnabled mode) (filter hasCalls (inJoinOrder p q (strandGroup mode p ev seq) (strandGroup mode q ew seq))) []
+
+-- the joined tag; no call at all gives an empty text and an empty ML
+unfoldable pub joinedTag : MethylationMode → ConversionPattern → Evidence → ConversionPattern → Evidence → List ℕ → Tag
+unfolding joinedGroups written
+joinedTag mode p ev q ew seq = written (joinedGroups mode p ev q ew seq)
+
+-- ---- the calls that the evidence gives, without a tag: at each place whose base is the pattern's letter and where there is a call, its value
+
+abbrev pub callAt : Bool → Option ℕ → ℕ → List Call → List Call
+callAt false v p cs = cs
+callAt true none p cs = cs
+callAt true (some v) p cs = record { place = p; values = v ∷ [] } ∷ cs
+
+unfoldable pub callsFrom : ℕ → MethylationMode → ConversionPattern → Evidence → List ℕ → List Call
+unfolding calledAt
+callsFrom i mode p ev [] = []
+callsFrom i mode p ev (x ∷ xs) = callAt (eqb x (letterOf p)) (calledAt mode ev i) i (callsFrom (suc i) mode p ev xs)
+
+unfoldable pub evidenceCalls : MethylationMode → ConversionPattern → Evidence → List ℕ → List Call
+unfolding callsFrom
+evidenceCalls mode p ev seq = callsFrom 0 mode p ev seq

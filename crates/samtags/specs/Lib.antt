@@ -1,0 +1,12 @@
+pub mod Bytes
+pub mod Decimal
+pub mod Text
+pub mod Outcome
+pub mod Spots
+pub mod Reading
+pub mod Writing
+pub mod Edits
+pub mod Session
+pub mod Meaning
+pub mod Building
+pub mod Samtags

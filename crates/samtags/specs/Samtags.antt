@@ -1,0 +1,139 @@
+-- What SAMtags says of a tag, by itself: nothing here reads or writes one. Entry j of a group, after the skips k₀ .. kⱼ, names the base of the
+-- group's kind that k₀ + .. + kⱼ + j bases of that kind stand before; its values are the next ones in ML.
+-- Assumes nothing.
+use mathlib.Core.Path.{_≡_}
+use Prim.Native.Nat.{ℕ, suc, _+_, _*_, _<_}
+use mathlib.Core.Bool.{Bool, true, cond, not, _&&_, _||_}
+use mathlib.Core.List.{List, [], _∷_, _++_, map}
+use lib.ListN.{length, getD, take, drop}
+use lib.Dec.{leb, eqb}
+use Rattle.lent.specs.Lists.{every, filter, isEmpty, concatMap, among}
+use Rattle.pattern.specs.Case.{sameInAnyCase}
+use Rattle.samtags.specs.Bytes.{ascii, comma, semicolon, letterN, isDigit}
+use Rattle.samtags.specs.Decimal.{isNumber, value}
+use Rattle.samtags.specs.Spots.{Call}
+
+-- ---- the bases of a kind
+
+-- 'U'
+abbrev pub letterU : ℕ
+letterU = 85
+
+-- A base x of SEQ is of the kind b. N is any base; U is what an RNA read shows as T. SAM makes no difference between cases.
+unfoldable pub ofKind : ℕ → ℕ → Bool
+unfolding sameInAnyCase
+ofKind b x = eqb b letterN || cond (eqb b letterU) (sameInAnyCase x 84 || sameInAnyCase x letterU) (sameInAnyCase x b)
+
+-- how many bases of the kind stand before place p
+unfoldable pub kindBefore : ℕ → List ℕ → ℕ → ℕ
+unfolding ofKind
+kindBefore b seq p = length (filter (ofKind b) (take p seq))
+
+-- p is the place of the base of the kind b that m such bases stand before
+pub record Names (b : ℕ) (seq : List ℕ) (m p : ℕ) : Type 0 where
+  pub there : p < length seq
+  pub kind : ofKind b (getD seq p 0) ≡ true
+  pub before : kindBefore b seq p ≡ m
+
+-- ---- a group and its calls
+
+abbrev pub sum : List ℕ → ℕ
+sum [] = 0
+sum (k ∷ ks) = k + sum ks
+
+-- k₀ + .. + kⱼ + j
+abbrev pub ordinal : List ℕ → ℕ → ℕ
+ordinal ks j = sum (take (suc j) ks) + j
+
+abbrev pub noCall : Call
+noCall = record { place = 0; values = [] }
+
+-- A group: its kind of base, how many ML values each listed base has, its skips.
+pub record Entries : Type 0 where
+  pub base : ℕ
+  pub per : ℕ
+  pub skips : List ℕ
+
+-- these are the group's calls, where ml is what of ML the groups before it have left
+pub record GroupMeans (seq ml : List ℕ) (g : Entries) (calls : List Call) : Type 0 where
+  pub asMany : length calls ≡ length (g .skips)
+  pub names : (j : ℕ) → j < length (g .skips) → Names (g .base) seq (ordinal (g .skips) j) (getD calls j noCall .place)
+  pub values : (j : ℕ) → j < length (g .skips) → getD calls j noCall .values ≡ take (g .per) (drop (j * g .per) ml)
+
+-- these are the calls of each group, and ML has no value more and none less
+pub data TagMeans (seq : List ℕ) : List ℕ → List Entries → List (List Call) → Type 0 where
+  noGroup : TagMeans seq [] [] []
+  aGroup : {ml : List ℕ} {g : Entries} {gs : List Entries} {calls : List Call} {rest : List (List Call)}
+      → GroupMeans seq ml g calls
+      → leb (length (g .skips) * g .per) (length ml) ≡ true
+      → TagMeans seq (drop (length (g .skips) * g .per) ml) gs rest
+      → TagMeans seq ml (g ∷ gs) (calls ∷ rest)
+
+-- ---- how a tag is spelled
+
+-- a group as it stands in the text: its header, and its skips as they are spelled
+pub record Piece : Type 0 where
+  pub header : List ℕ
+  pub skips : List (List ℕ)
+
+abbrev pub ledByCommas : List (List ℕ) → List ℕ
+ledByCommas fs = concatMap (λ f. comma ∷ f) fs
+
+abbrev pub pieceText : Piece → List ℕ
+pieceText p = p .header ++ ledByCommas (p .skips) ++ semicolon ∷ []
+
+abbrev pub spelled : List Piece → List ℕ
+spelled ps = concatMap pieceText ps
+
+-- what the pieces of a text mean, where base and per say what a header means
+abbrev pub entriesOf : (List ℕ → ℕ) → (List ℕ → ℕ) → Piece → Entries
+entriesOf base per p = record { base = base (p .header); per = per (p .header); skips = map value (p .skips) }
+
+-- ---- SAMtags' own headers: [ACGTUN][-+]([a-z]+|[0-9]+)[.?]?
+
+pub record Header : Type 0 where
+  pub base : ℕ
+  pub sign : ℕ
+  pub codes : List ℕ
+  pub mark : List ℕ
+
+-- 'a' to 'z'
+abbrev pub isCodeLetter : ℕ → Bool
+isCodeLetter x = leb 97 x && leb x 122
+
+-- no mark, '.' or '?'
+abbrev pub isMarkText : List ℕ → Bool
+isMarkText [] = true
+isMarkText (x ∷ xs) = among (ascii ".?") x && isEmpty xs
+
+unfoldable pub isHeader : Header → Bool
+unfolding isDigit
+isHeader h =
+    among (ascii "ACGTUN") (h .base) && among (ascii "+-") (h .sign)
+    && (not (isEmpty (h .codes)) && (every isCodeLetter (h .codes) || every isDigit (h .codes)))
+    && isMarkText (h .mark)
+
+abbrev pub headerText : Header → List ℕ
+headerText h = h .base ∷ h .sign ∷ h .codes ++ h .mark
+
+-- how many codes: a number is one, else each letter is
+unfoldable pub codeCount : Header → ℕ
+unfolding isDigit
+codeCount h = cond (every isDigit (h .codes)) 1 (length (h .codes))
+
+-- a group with such a header
+pub record Spelled : Type 0 where
+  pub header : Header
+  pub skips : List (List ℕ)
+
+unfoldable pub isSpelling : Spelled → Bool
+unfolding isHeader isNumber
+isSpelling s = isHeader (s .header) && every isNumber (s .skips)
+
+abbrev pub pieceOf : Spelled → Piece
+pieceOf s = record { header = headerText (s .header); skips = s .skips }
+
+-- what the group means; without ML a listed base has no values
+unfoldable pub meaningOf : Bool → Spelled → Entries
+unfolding codeCount value
+meaningOf ml? s = record { base = s .header .base; per = cond ml? (codeCount (s .header)) 0; skips = map value (s .skips) }
