@@ -12,10 +12,19 @@ def source_folder():
     return os.environ.get("FGUMI_SRC") or os.path.join(HERE, "..", "..", "shared", "docs", "src")
 
 
+def cargo_is_too_old():
+    """The Rust files and the driver want cargo 1.85; a distribution's own may be older."""
+    said = subprocess.run(["cargo", "--version"], stdout=subprocess.PIPE, text=True, check=True).stdout
+    version = said.split()[1].split("-")[0]
+    return tuple(map(int, version.split(".")[:2])) < (1, 85)
+
+
 def missing():
     """What the driver lacks, as a sentence, or None."""
     if shutil.which("cargo") is None:
         return "cargo is not at hand, so the Rust can't be compiled"
+    if cargo_is_too_old():
+        return "cargo here is older than 1.85, so the Rust can't be compiled"
     original = os.path.join(source_folder(), "crates", "fgumi-consensus", "src", "modifications.rs")
     if not os.path.isfile(original):
         return "the Rust files are not at hand: FGUMI_SRC, or else ../shared/docs/src, has no crates/fgumi-consensus"

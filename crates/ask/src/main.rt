@@ -1,6 +1,6 @@
 // `ask`: answers requests on standard input, one a line, so that every public call can be held against the Rust, a model, or anybody's own
 // cases. A line is fields with tabs between; its answer is a line: the number of the scope and the fields of what was asked, or `?` where
-// the line is no request or is longer than the buffer. docs/DECISIONS.md says what a request may hold.
+// the line is no request or is longer than the buffer. oracle/README.md says what a request may hold.
 //
 // main.rt reads lines and hands each to its call; text.rt takes a line apart; reply.rt writes an answer; a file for each group of calls.
 ghost use mathlib.Core.Path.{_≡_};

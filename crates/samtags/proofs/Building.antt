@@ -9,7 +9,7 @@ use mathlib.Core.List.{List, [], _∷_, _++_, map}
 use mathlib.Core.Option.{Option, none, some}
 use lib.ListN.{length, length-append, length-map}
 use lib.Dec.{leb, eqb}
-use borrow.Author.Tests.{eqb-true}
+use borrow.Author.Tests.{eqb-true, le-leb, leb-true}
 use Rattle.lent.specs.Lists.{every, filter, isEmpty, concatMap}
 use Rattle.lent.proofs.Tests.{by-test, and-true, and-true-l, and-true-r, eqb-sym}
 use Rattle.lent.proofs.Lists.{every-filter}
@@ -23,10 +23,10 @@ use Rattle.samtags.specs.Decimal.{digits}
 use Rattle.samtags.specs.Text.{baseOf}
 use Rattle.samtags.specs.Outcome.{done}
 use Rattle.samtags.specs.Spots.{Spot, bare, call, placeOf, valuesOf, Group, Call, Listing, callsIn, listing, holds, placesFrom, tracked}
-use Rattle.samtags.specs.Reading.{valuesIf, lists}
+use Rattle.samtags.specs.Reading.{valuesIf, lists, inDomain, readTag}
 use Rattle.samtags.specs.Writing.{Tag, skipsFrom, entriesText, groupText, textOf, mlOf, written}
 use Rattle.samtags.specs.Building.{Evidence, calledAt, spotAt, headerOf, strandGroup, hasCalls, buildTag, evidenceInDomain, evidenceAgrees, secondFirst, inJoinOrder, joinedGroups, joinedTag, callAt, callsFrom, evidenceCalls}
-use Rattle.samtags.proofs.Outcome.{done-inj, need-rest}
+use Rattle.samtags.proofs.Outcome.{done-inj, need-test, need-rest}
 use Rattle.samtags.proofs.Decimal.{digits-few}
 use Rattle.samtags.proofs.ReadWritten.{sized, Fits, AllFit}
 use Rattle.samtags.proofs.Places.{places-length}
@@ -214,20 +214,25 @@ no-u ml? mode p ev seq = rw (letter-base p) (letter p)
     letter CToT = refl
     letter GToA = refl
 
--- What is built, with and without ML and whatever the room, is accepted by the reader and lists exactly the calls of the evidence.
-pub built-is-read : (ml? : Bool) (mode : MethylationMode) (p : ConversionPattern) (ev : Evidence) (seq : List ℕ) (t m : ℕ) (r : Tag) (lent : List ℕ)
-    → upperCase seq ≡ true → buildTag ml? mode p ev seq t m ≡ done r
-    → lists ml? seq (r .text) (cond ml? (r .ml) lent) ≡ done (evidenceListing ml? mode p ev seq ∷ [])
+-- a build that is done gives its strand's tag, whatever the room
+built-tag : (ml? : Bool) (mode : MethylationMode) (p : ConversionPattern) (ev : Evidence) (seq : List ℕ) (t m : ℕ) (r : Tag)
+    → buildTag ml? mode p ev seq t m ≡ done r → written (strandGroup mode p ev seq ∷ []) ≡ r
 unfolding buildTag
-built-is-read ml? mode p ev seq t m r lent u e =
+built-tag ml? mode p ev seq t m r e =
     let g = strandGroup mode p ev seq in
+    let w = written (g ∷ []) in
     let e₂ = need-rest (evidenceInDomain ev seq) 1 _ r e in
     let e₃ = need-rest (evidenceAgrees ev seq) 2 _ r e₂ in
     let e₄ = need-rest (isEnabled mode && hasCalls g) 20 _ r e₃ in
-    let w = written (g ∷ []) in
-    let same : w ≡ r = done-inj (need-rest (leb (length (w .text)) t && cond ml? (leb (length (w .ml)) m) true) 12 (done w) r e₄) in
-    subst (λ (q : Tag). lists ml? seq (q .text) (cond ml? (q .ml) lent) ≡ done (evidenceListing ml? mode p ev seq ∷ [])) same
-    (groups-read-back ml? seq (g ∷ []) lent (strand-fits ml? mode p ev seq u, tt) refl
+    done-inj (need-rest (leb (length (w .text)) t && cond ml? (leb (length (w .ml)) m) true) 12 (done w) r e₄)
+
+-- What is built, with and without ML, is read, and lists exactly the calls of the evidence.
+pub built-is-read : (ml? : Bool) (mode : MethylationMode) (p : ConversionPattern) (ev : Evidence) (seq : List ℕ) (t m : ℕ) (r : Tag) (lent : List ℕ)
+    → upperCase seq ≡ true → buildTag ml? mode p ev seq t m ≡ done r
+    → lists ml? seq (r .text) (cond ml? (r .ml) lent) ≡ done (evidenceListing ml? mode p ev seq ∷ [])
+built-is-read ml? mode p ev seq t m r lent u e =
+    subst (λ (q : Tag). lists ml? seq (q .text) (cond ml? (q .ml) lent) ≡ done (evidenceListing ml? mode p ev seq ∷ [])) (built-tag ml? mode p ev seq t m r e)
+    (groups-read-back ml? seq (strandGroup mode p ev seq ∷ []) lent (strand-fits ml? mode p ev seq u, tt) refl
     ∙ ap (λ (l : Listing). done (l ∷ [])) (strand-lists ml? mode p ev seq u))
 
 -- The same in SAMtags' words.
@@ -387,3 +392,43 @@ joined-fits-the-domain mode p ev q ew seq h =
     (λ f. let s = two-short (length seq) hasCalls b a (strand-short mode q ew seq) (strand-short mode p ev seq) in rw f (omega (arith, s .0), omega (arith, s .1)))
     (λ f. let s = two-short (length seq) hasCalls a b (strand-short mode p ev seq) (strand-short mode q ew seq) in rw f (omega (arith, s .0), omega (arith, s .1)))))
     (λ e. rw e (omega arith, omega arith))
+
+-- ---- the public reader takes what is built
+
+in-domain : (ml? : Bool) (seq : List ℕ) (r : Tag) (lent : List ℕ) → length seq ≤ 16000 → length (r .text) ≤ 65536 → length (r .ml) ≤ 65536
+    → inDomain ml? seq (r .text) (cond ml? (r .ml) lent) ≡ true
+in-domain true seq r lent a b c = rw (le-leb (length seq) 16000 a, le-leb (length (r .text)) 65536 b, le-leb (length (r .ml)) 65536 c)
+in-domain false seq r lent a b c = rw (le-leb (length seq) 16000 a, le-leb (length (r .text)) 65536 b)
+
+-- what is built for one strand is no longer than the domain allows
+built-short : (ml? : Bool) (mode : MethylationMode) (p : ConversionPattern) (ev : Evidence) (seq : List ℕ) (t m : ℕ) (r : Tag)
+    → buildTag ml? mode p ev seq t m ≡ done r → (length seq ≤ 16000) × (length (r .text) ≤ 32005) × (length (r .ml) ≤ 16000)
+unfolding buildTag written textOf mlOf
+built-short ml? mode p ev seq t m r e =
+    let g = strandGroup mode p ev seq in
+    let short = strand-short mode p ev seq in
+    let inside = need-test (evidenceInDomain ev seq) 1 _ r e in
+    let size : length seq ≤ 16000 = leb-true (length seq) 16000 (and-true-l (leb (length seq) 16000) _ (and-true-l _ _ (and-true-l _ _ inside))) in
+    let same = built-tag ml? mode p ev seq t m r e in
+    subst (λ (q : Tag). (length seq ≤ 16000) × (length (q .text) ≤ 32005) × (length (q .ml) ≤ 16000)) same (
+      size,
+      omega (arith, short .0, length-append (groupText g) []),
+      omega (arith, short .1, length-append (concatMap valuesOf (g .spots)) []),
+    )
+
+-- What is built, with and without ML, is accepted by the public reader and lists exactly the calls of the evidence.
+pub built-is-accepted : (ml? : Bool) (mode : MethylationMode) (p : ConversionPattern) (ev : Evidence) (seq : List ℕ) (t m : ℕ) (r : Tag) (lent : List ℕ)
+    → upperCase seq ≡ true → buildTag ml? mode p ev seq t m ≡ done r
+    → readTag ml? seq (r .text) (cond ml? (r .ml) lent) ≡ done (evidenceListing ml? mode p ev seq ∷ [])
+unfolding readTag
+built-is-accepted ml? mode p ev seq t m r lent u e =
+    let s = built-short ml? mode p ev seq t m r e in
+    rw (in-domain ml? seq r lent (s .0) (omega (arith, s .1)) (omega (arith, s .2))) (built-is-read ml? mode p ev seq t m r lent u e)
+
+pub joined-is-accepted : (ml? : Bool) (mode : MethylationMode) (p : ConversionPattern) (ev : Evidence) (q : ConversionPattern) (ew : Evidence) (seq : List ℕ)
+    (lent : List ℕ) → upperCase seq ≡ true → length seq ≤ 16000 → isEmpty (joinedGroups mode p ev q ew seq) ≡ false
+    → readTag ml? seq (joinedTag mode p ev q ew seq .text) (cond ml? (joinedTag mode p ev q ew seq .ml) lent) ≡ done (joinedListings ml? mode p ev q ew seq)
+unfolding readTag
+joined-is-accepted ml? mode p ev q ew seq lent u h e =
+    let s = joined-fits-the-domain mode p ev q ew seq h in
+    rw (in-domain ml? seq (joinedTag mode p ev q ew seq) lent h (omega (arith, s .0)) (omega (arith, s .1))) (joined-is-read ml? mode p ev q ew seq u lent e)
