@@ -96,6 +96,62 @@ def judge_answer(call, line, answer, rust_answer, model):
     return NO_SPACE if answer == "12" else difference
 
 
+# ---- Where the model says 1 --------------------------------------------------------------------
+
+# By call: the places of the fields that are rows of bases, lists of counts, and texts or ML.
+BASES, COUNTS, TEXTS = "bases", "counts", "texts"
+MEASURED = {
+    "GATE": {BASES: (1,), COUNTS: (2, 3)},
+    "TRUNC": {BASES: (2,), COUNTS: (3, 4)},
+    "CNT": {BASES: (1,), COUNTS: (2, 3)},
+    "REST": {BASES: (1, 2)},
+    "BUILD": {BASES: (2, 3), COUNTS: (4, 5)},
+    "BUILDMM": {BASES: (2, 3), COUNTS: (4, 5)},
+    "CALLS": {TEXTS: (0, 1), BASES: (2,)},
+    "TALLY": {TEXTS: (0, 1), BASES: (2,)},
+    "MASK": {TEXTS: (0, 1), BASES: (2, 3)},
+    "DROP": {TEXTS: (0, 1), BASES: (2,)},
+    "CUT": {TEXTS: (0, 1), BASES: (2, 3)},
+}
+
+
+def cigar_is_long(words):
+    """More words, or more bases in the query, than the domain has."""
+    found = [int(word) for word in words.split(",") if word != "*"]
+    return len(found) > 65_535 or sum(word >> 4 for word in found if word % 16 in (0, 1, 4, 7, 8)) > 16_000
+
+
+def reads_are_long(length, reads):
+    bases = sum(map(p.row_length, reads.split(","))) if reads != "*" else 0
+    return int(length) > 16_000 or p.list_length(reads) > 4_096 or bases > 1_048_576
+
+
+def lengths_are_long(ml, lengths):
+    seq, mm, of_ml = map(int, lengths.split(","))
+    return seq > 16_000 or mm > 65_536 or (ml != "-" and of_ml > 65_536)
+
+
+def is_long(call, line):
+    """Whether an input of the request is longer than the domain allows, measured on the request itself."""
+    fields = p.without_room(line).split("\t")[1:]
+    if call == "Q":
+        return cigar_is_long(fields[0])
+    if call == "ANN":
+        return reads_are_long(fields[0], fields[4])
+    if call == "STEP":
+        return lengths_are_long(fields[2], fields[3])
+    if call == "DUP":
+        strands = range(2, len(fields), 4)
+        places = {BASES: (1, *(k + 1 for k in strands)), COUNTS: [k + i for k in strands for i in (2, 3)]}
+    else:
+        places = MEASURED.get(call, {})
+    return (
+        any(p.row_length(fields[k]) > 16_000 for k in places.get(BASES, ()))
+        or any(p.list_length(fields[k]) > 16_000 for k in places.get(COUNTS, ()))
+        or any(p.row_length(fields[k]) > 65_536 for k in places.get(TEXTS, ()))
+    )
+
+
 # ---- Where the model refuses -------------------------------------------------------------------
 
 
@@ -152,16 +208,27 @@ def judge_not_ascii(line, rust_answer):
     return judge_none(line, rust_answer) or HIGH_REFUSED
 
 
-def judge_13(call, line, rust_answer):
-    """13 for the reason that the request shows: the strands, a kind, or the start."""
-    fields = line.split("\t")
+def strands_of(line):
+    return (len(p.without_room(line).split("\t")) - 3) // 4
+
+
+def has_unknown_kind(line):
+    return any(int(word) % 16 > 8 for word in line.split("\t")[1].split(",") if word != "*")
+
+
+def is_13(call, line):
+    """Whether the request shows a reason for 13: the strands, a kind, or the start."""
     if call == "DUP":
-        agree(len(p.without_room(line).split("\t")) in (3, 15))
+        return strands_of(line) not in (1, 2)
+    return call == "Q" and (has_unknown_kind(line) or not 0 <= int(line.split("\t")[2]) < 2**31)
+
+
+def judge_13(call, line, rust_answer):
+    if call == "DUP":
         return STRANDS
-    if any(int(word) % 16 > 8 for word in fields[1].split(",") if word != "*"):
+    if has_unknown_kind(line):
         agree(rust_answer == "?")
         return KIND
-    agree(not 0 <= int(fields[2]) < 2**31)
     return START
 
 
@@ -197,6 +264,8 @@ def judge(line, rust_answer, model):
     number = answer.split("\t", 1)[0]
     if number == "?":
         return answer, judge_form(line, rust_answer, model)
+    agree((number == "13") == is_13(call, line))
+    agree((number == "1") == (number != "13" and is_long(call, line)))
     if number == "1":
         return answer, LONG
     if number in ("0", "12"):

@@ -115,6 +115,9 @@ FAULTS = [
     ("an unknown kind past the 65,535th word missed",
      "for _, kind in operations), BAD_KIND_OR_START)",
      "for _, kind in operations[:MOST_WORDS]), BAD_KIND_OR_START)"),
+    ("a negative start is taken",
+     "not 0 <= start <= LARGEST_START",
+     "not start <= LARGEST_START"),
     ("CpG at the slice's end",
      'reference[first : first + 2].upper() == b"CG"',
      'reference[first : first + 2].upper() in (b"CG", b"C")'),
@@ -154,6 +157,9 @@ FAULTS = [
     ("one base over the domain accepted",
      "MOST_BASES = 16_000\n",
      "MOST_BASES = 16_001\n"),
+    ("restoring refuses the domain's last base",
+     "    refuse_bad_columns(seq, inf)\n    return [show_bytes(restored(",
+     "    refuse_longer(MOST_BASES - 1, seq)\n    refuse_bad_columns(seq, inf)\n    return [show_bytes(restored("),
 ]
 
 
@@ -175,12 +181,12 @@ def with_fault(text, name, old, new):
 
 
 def modest_list():
-    """Requests of every call and the Rust's answers; the boundary ones, few and large, are left out."""
+    """Requests of every call and the Rust's answers. The boundary ones are large, so only one call's are here."""
     program = rust.driver()
     pairs = []
     for call in generate.CALLS:
         sections = generate.sections(call, SEED, SHARE)
-        requests = sections["short"] + sections["random"]
+        requests = sections["short"] + sections["random"] + (sections["boundary"] if call == "REST" else [])
         pairs += zip(requests, rust.answers(program, requests))
     return pairs
 

@@ -122,6 +122,9 @@ def boundary_pat():
     for flags in (65_407, 65_408, 65_534, 65_535, 65_536, 65_664, U32, U32 + 129, U64, U64 + 1):
         yield p.pat(flags)
     yield p.pat("000" * 9 + "128")
+    # The longest line that the program takes, and one byte more.
+    for length in (model.LONGEST_LINE, model.LONGEST_LINE + 1):
+        yield p.pat("128".rjust(length - len("PAT\t"), "0"))
 
 
 def short_fetch():

@@ -145,7 +145,7 @@ def edited(mm, ml=None):
     return done(row(mm), row(ml))
 
 
-# ---- How much room an answer takes -------------------------------------------------------------
+# ---- How long the inputs of a request are ------------------------------------------------------
 
 
 def row_length(field):
@@ -154,6 +154,9 @@ def row_length(field):
 
 def list_length(field):
     return 0 if field == "*" else field.count(",") + 1
+
+
+# ---- How much room an answer takes -------------------------------------------------------------
 
 
 def duplex_room(seq, mm, ml, cu, ct, *strands):

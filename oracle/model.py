@@ -33,6 +33,7 @@ BASES_BUFFER = MOST_BASES + 1
 BYTES_BUFFER = MOST_BYTES + 1
 READS_BUFFER = MOST_READS + 1
 WORDS_BUFFER = MOST_WORDS + 1
+LONGEST_LINE = 1_048_575  # the line end not counted
 
 
 class Refused(Exception):
@@ -759,7 +760,7 @@ def read_room(fields, sizes):
 def answer(line):
     """The line that the program `ask` must give for a request."""
     name, *fields = line.split("\t")
-    if name not in CALLS:
+    if name not in CALLS or len(line) > LONGEST_LINE:
         return "?"
     function, field_count, room_sizes = CALLS[name]
     try:

@@ -1,4 +1,4 @@
--- Over upper-case bases, reading a built tag gives back exactly the calls that it was built from, for one strand and for two, in SAMtags' words;
+-- Over upper-case bases, reading a built tag gives back exactly the calls that it was built from, for one strand and for two;
 -- and a tag that is built for two strands takes at most 64,010 bytes.
 -- Assumes nothing.
 use mathlib.Core.Path.{_≡_, refl, ap, _∙_, subst}
@@ -28,11 +28,12 @@ use Rattle.samtags.specs.Writing.{Tag, skipsFrom, entriesText, groupText
 use Rattle.samtags.specs.Building.{Evidence, calledAt, spotAt, headerOf, strandGroup, hasCalls, buildTag, evidenceInDomain, evidenceAgrees, secondFirst, inJoinOrder, joinedGroups, joinedTag, callAt, callsFrom, evidenceCalls}
 use Rattle.samtags.proofs.Outcome.{done-inj, need-test, need-rest}
 use Rattle.samtags.proofs.Decimal.{digits-few}
+use Rattle.samtags.proofs.SameText.{isCall, onSpots, text-same, ml-same}
 use Rattle.samtags.proofs.ReadWritten.{sized, Fits, AllFit}
 use Rattle.samtags.proofs.Places.{places-length}
 use Rattle.samtags.proofs.Steps.{map-some, read-back}
 use Rattle.samtags.proofs.Names.{upperCase}
-use Rattle.samtags.proofs.ReadMeans.{noU, Read-means, reading-means}
+use Rattle.samtags.proofs.ReadMeans.{noU}
 
 -- ---- over upper-case bases the builder's places are the reader's
 
@@ -72,35 +73,26 @@ places-same p i (x ∷ xs) u =
 abbrev pub valuedCall : Bool → Call → Call
 valuedCall ml? c = record { place = c .place; values = cond ml? (c .values) [] }
 
-abbrev valued : Bool → Spot → Spot
+abbrev pub valued : Bool → Spot → Spot
 valued ml? (bare p) = bare p
 valued ml? (call p vs) = call p (cond ml? vs [])
 
-abbrev valuedGroup : Bool → Group → Group
-valuedGroup ml? g = record { header = g .header; spots = map (valued ml?) (g .spots) }
-
-skips-valued : (ml? : Bool) (n : ℕ) (ss : List Spot) → skipsFrom n (map (valued ml?) ss) ≡ skipsFrom n ss
-skips-valued ml? n [] = refl
-skips-valued ml? n (bare p ∷ ss) = skips-valued ml? (suc n) ss
-skips-valued ml? n (call p vs ∷ ss) = ap (λ (r : List ℕ). n ∷ r) (skips-valued ml? 0 ss)
+abbrev pub valuedGroup : Bool → Group → Group
+valuedGroup ml? g = onSpots (valued ml?) g
 
 text-valued : (ml? : Bool) (gs : List Group) → textOf (map (valuedGroup ml?) gs) ≡ textOf gs
-unfolding textOf
-text-valued ml? [] = refl
-text-valued ml? (g ∷ gs) = rw (skips-valued ml? 0 (g .spots), text-valued ml? gs)
+text-valued ml? = text-same (valued ml?) calls-stay
+  where
+    calls-stay : (s : Spot) → isCall (valued ml? s) ≡ isCall s
+    calls-stay (bare p) = refl
+    calls-stay (call p vs) = refl
 
-values-valued : (ss : List Spot) → concatMap valuesOf (map (valued true) ss) ≡ concatMap valuesOf ss
-values-valued [] = refl
-values-valued (bare p ∷ ss) = values-valued ss
-values-valued (call p vs ∷ ss) = ap (λ (r : List ℕ). vs ++ r) (values-valued ss)
-
-ml-valued : (gs : List Group) → mlOf (map (valuedGroup true) gs) ≡ mlOf gs
-unfolding mlOf
-ml-valued [] = refl
-ml-valued (g ∷ gs) = rw (values-valued (g .spots), ml-valued gs)
+values-stay : (s : Spot) → valuesOf (valued true s) ≡ valuesOf s
+values-stay (bare p) = refl
+values-stay (call p vs) = refl
 
 ml-lent : (ml? : Bool) (gs : List Group) (lent : List ℕ) → cond ml? (mlOf (map (valuedGroup ml?) gs)) lent ≡ cond ml? (mlOf gs) lent
-ml-lent true gs lent = ml-valued gs
+ml-lent true gs lent = ml-same (valued true) values-stay gs
 ml-lent false gs lent = refl
 
 calls-valued : (ml? : Bool) (ss : List Spot) → callsIn (map (valued ml?) ss) ≡ map (valuedCall ml?) (callsIn ss)
@@ -190,7 +182,7 @@ strand-calls mode p ev seq u = calls-from mode p ev 0 seq u
 abbrev pub evidenceListing : Bool → MethylationMode → ConversionPattern → Evidence → List ℕ → Listing
 evidenceListing ml? mode p ev seq = record { header = headerOf p; calls = map (valuedCall ml?) (evidenceCalls mode p ev seq) }
 
-strand-lists : (ml? : Bool) (mode : MethylationMode) (p : ConversionPattern) (ev : Evidence) (seq : List ℕ) → upperCase seq ≡ true
+pub strand-lists : (ml? : Bool) (mode : MethylationMode) (p : ConversionPattern) (ev : Evidence) (seq : List ℕ) → upperCase seq ≡ true
     → listing (valuedGroup ml? (strandGroup mode p ev seq)) ≡ evidenceListing ml? mode p ev seq
 unfolding strandGroup
 strand-lists ml? mode p ev seq u =
@@ -206,7 +198,7 @@ groups-read-back ml? seq gs lent f e =
 
 -- ---- one strand
 
-no-u : (ml? : Bool) (mode : MethylationMode) (p : ConversionPattern) (ev : Evidence) (seq : List ℕ)
+pub no-u : (ml? : Bool) (mode : MethylationMode) (p : ConversionPattern) (ev : Evidence) (seq : List ℕ)
     → eqb (baseOf (evidenceListing ml? mode p ev seq .header)) 85 ≡ false
 no-u ml? mode p ev seq = rw (letter-base p) (letter p)
   where
@@ -215,7 +207,7 @@ no-u ml? mode p ev seq = rw (letter-base p) (letter p)
     letter GToA = refl
 
 -- a build that is done gives its strand's tag, whatever the room
-built-tag : (ml? : Bool) (mode : MethylationMode) (p : ConversionPattern) (ev : Evidence) (seq : List ℕ) (t m : ℕ) (r : Tag)
+pub built-tag : (ml? : Bool) (mode : MethylationMode) (p : ConversionPattern) (ev : Evidence) (seq : List ℕ) (t m : ℕ) (r : Tag)
     → buildTag ml? mode p ev seq t m ≡ done r → written (strandGroup mode p ev seq ∷ []) ≡ r
 unfolding buildTag
 built-tag ml? mode p ev seq t m r e =
@@ -234,14 +226,6 @@ built-is-read ml? mode p ev seq t m r lent u e =
     subst (λ (q : Tag). lists ml? seq (q .text) (cond ml? (q .ml) lent) ≡ done (evidenceListing ml? mode p ev seq ∷ [])) (built-tag ml? mode p ev seq t m r e)
     (groups-read-back ml? seq (strandGroup mode p ev seq ∷ []) lent (strand-fits ml? mode p ev seq u, tt) refl
     ∙ ap (λ (l : Listing). done (l ∷ [])) (strand-lists ml? mode p ev seq u))
-
--- The same in SAMtags' words.
-pub built-means : (ml? : Bool) (mode : MethylationMode) (p : ConversionPattern) (ev : Evidence) (seq : List ℕ) (t m : ℕ) (r : Tag) (lent : List ℕ)
-    → upperCase seq ≡ true → buildTag ml? mode p ev seq t m ≡ done r
-    → Read-means ml? seq (r .text) (cond ml? (r .ml) lent) (evidenceListing ml? mode p ev seq ∷ [])
-built-means ml? mode p ev seq t m r lent u e =
-    reading-means ml? seq (r .text) (cond ml? (r .ml) lent) (evidenceListing ml? mode p ev seq ∷ [])
-    (built-is-read ml? mode p ev seq t m r lent u e) u (rw (no-u ml? mode p ev seq))
 
 -- ---- two strands
 
@@ -294,7 +278,7 @@ module _ (ml? : Bool) (mode : MethylationMode) (p : ConversionPattern) (ev : Evi
   unfolding joinedGroups both
   joined-fit = by-test (isEnabled mode) (λ e. rw e (all-fit-filter ml? seq hasCalls both both-fit)) (λ e. rw e tt)
 
-  joined-list : map listing (map (valuedGroup ml?) (joinedGroups mode p ev q ew seq)) ≡ joinedListings ml? mode p ev q ew seq
+  pub joined-list : map listing (map (valuedGroup ml?) (joinedGroups mode p ev q ew seq)) ≡ joinedListings ml? mode p ev q ew seq
   unfolding joinedGroups both
   joined-list =
       by-test (isEnabled mode)
@@ -313,18 +297,11 @@ module _ (ml? : Bool) (mode : MethylationMode) (p : ConversionPattern) (ev : Evi
       (λ e. rw (e, no-u ml? mode p ev seq, no-u ml? mode q ew seq))
       (λ e. rw (e, no-u ml? mode p ev seq, no-u ml? mode q ew seq))
 
-  joined-no-u : noU (joinedListings ml? mode p ev q ew seq) ≡ true
+  pub joined-no-u : noU (joinedListings ml? mode p ev q ew seq) ≡ true
   joined-no-u =
       by-test (isEnabled mode)
       (λ e. rw e (every-filter _ (λ (l : Listing). not (isEmpty (l .calls))) (inJoinOrder p q (evidenceListing ml? mode p ev seq) (evidenceListing ml? mode q ew seq)) strands-no-u))
       (λ e. rw e)
-
-  -- The same in SAMtags' words.
-  pub joined-means : (lent : List ℕ) → isEmpty (joinedGroups mode p ev q ew seq) ≡ false
-      → Read-means ml? seq (joinedTag mode p ev q ew seq .text) (cond ml? (joinedTag mode p ev q ew seq .ml) lent) (joinedListings ml? mode p ev q ew seq)
-  joined-means lent e =
-      reading-means ml? seq (joinedTag mode p ev q ew seq .text) (cond ml? (joinedTag mode p ev q ew seq .ml) lent) (joinedListings ml? mode p ev q ew seq)
-      (joined-is-read lent e) u joined-no-u
 
 -- ---- how long a built tag is
 

@@ -4,6 +4,7 @@ pub mod Decimal
 pub mod Text
 pub mod ReadWritten
 pub mod Read
+pub mod SameText
 pub mod Length
 pub mod Tally
 pub mod Places
@@ -17,5 +18,6 @@ pub mod OneMeaning
 pub mod ReadMeans
 pub mod MeantIsRead
 pub mod Building
+pub mod BuiltSays
 pub mod Masking
 pub mod MlValue

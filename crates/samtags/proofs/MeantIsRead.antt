@@ -26,7 +26,7 @@ use Rattle.samtags.proofs.Text.{lacks, header-of, fields-of, group-of, 
 use Rattle.samtags.proofs.Read.{spots-read}
 use Rattle.samtags.proofs.Names.{upperCase, base-upper, names-tracked}
 use Rattle.samtags.proofs.OneMeaning.{call-ext}
-use Rattle.samtags.proofs.ReadMeans.{entries-mean}
+use Rattle.samtags.proofs.ReadMeans.{entries-mean, noU, callsOf, readEntries, tag-means}
 
 -- ---- SAMtags' headers can be read
 
@@ -148,7 +148,7 @@ base-bytes : every (λ b. eqb (upper b) b) (ascii "ACGTUN") ≡ true
 unfolding upper
 base-bytes = refl
 
-readable : (h : Header) → isHeader h ≡ true → Readable h
+pub readable : (h : Header) → isHeader h ≡ true → Readable h
 unfolding isMark baseOf codesOf valuesPer codeCount
 readable h e =
     let p = header-parts h e in
@@ -254,7 +254,7 @@ listingsOf (s ∷ ss) (cs ∷ css) = listingOf s cs ∷ listingsOf ss css
 abbrev pub noneOnU : List Spelled → Bool
 noneOnU ss = every (λ (s : Spelled). not (eqb (s .header .base) letterU)) ss
 
-abbrev spelling : List Spelled → List ℕ
+abbrev pub spelling : List Spelled → List ℕ
 spelling ss = spelled (map pieceOf ss)
 
 taken-is : (ml? : Bool) (s : Spelled) → length (meaningOf ml? s .skips) * meaningOf ml? s .per ≡ taken ml? s
@@ -332,3 +332,29 @@ pub meant-is-accepted : (ml? : Bool) (seq : List ℕ) (s : Spelled) (ss : List S
     → readTag ml? seq (spelled (map pieceOf (s ∷ ss))) ml ≡ done (listingsOf (s ∷ ss) css)
 unfolding readTag
 meant-is-accepted ml? seq s ss ml css ok nu u means fits = rw fits (meant-is-read ml? seq s ss ml css ok nu u means)
+
+-- ---- and what is so spelled and is read means what SAMtags says
+
+spelled-entries : (ml? : Bool) (ss : List Spelled) → every isSpelling ss ≡ true
+    → map (readEntries ml?) (closedBy semicolon (spelling ss)) ≡ map (meaningOf ml?) ss
+unfolding isSpelling meaningOf valuesIf
+spelled-entries ml? [] ok = refl
+spelled-entries ml? (s ∷ ss) ok =
+    let one = and-true-l (isSpelling s) (every isSpelling ss) ok in
+    let h = headerText (s .header) in
+    let num = and-true-r (isHeader (s .header)) (every isNumber (s .skips)) one in
+    let p = readable (s .header) (and-true-l (isHeader (s .header)) (every isNumber (s .skips)) one) in
+    rw (
+      spelled-closed s ss one,
+      header-of h (s .skips) num (p .no-comma),
+      fields-of h (s .skips) num (p .no-comma),
+      p .base-is,
+      p .per-is,
+      spelled-entries ml? ss (and-true-r (isSpelling s) (every isSpelling ss) ok),
+    )
+
+-- What the reader lists of a tag that is spelled as SAMtags says, on an upper-case SEQ and with no group on U, are SAMtags' calls of its groups.
+pub read-is-meant : (ml? : Bool) (seq : List ℕ) (ss : List Spelled) (ml : List ℕ) (ls : List Listing) → every isSpelling ss ≡ true
+    → upperCase seq ≡ true → noU ls ≡ true → lists ml? seq (spelled (map pieceOf ss)) ml ≡ done ls
+    → TagMeans seq (cond ml? ml []) (map (meaningOf ml?) ss) (callsOf ls)
+read-is-meant ml? seq ss ml ls ok u n e = rw (← spelled-entries ml? ss ok) (tag-means ml? seq (spelling ss) ml ls e u n)

@@ -17,10 +17,10 @@ use Rattle.samtags.specs.Reading.{lists}
 use Rattle.samtags.specs.Writing.{Tag}
 use Rattle.samtags.specs.Edits.{edited, maskedTo, droppingAt, cutTo}
 use Rattle.samtags.specs.Session.{Step, mask, dropCalls, cut, Held, masked, window, heldWith, stepped, afterStep, run, answers, Memory, heldIn, stored, lengthsInDomain, lengthsInBuffers, inOrder, openSession, stepInMemory, runInMemory, answersInMemory}
-use Rattle.samtags.specs.Meaning.{opening, leftOfListing, leftOfSeq, afterSteps, answersTo}
+use Rattle.samtags.specs.Meaning.{opening, leftOfListing, leftOfSeq, afterSteps, answersTo, refusedSteps, isRefusal}
 use Rattle.samtags.proofs.Outcome.{need-test, need-rest}
 use Rattle.samtags.proofs.Length.{never-longer}
-use Rattle.samtags.proofs.SessionMeaning.{mask-length, session-meaning}
+use Rattle.samtags.proofs.SessionMeaning.{mask-length, session-meaning, refused-steps}
 
 -- ---- a step lets nothing grow, and leaves alone an ML that there is not
 
@@ -195,6 +195,11 @@ session-in-memory ml? m ls e ts =
       lists-then = ap (λ (h : Held). lists ml? (h .seq) (h .text) (h .ml)) (f .0) ∙ w .lists-then;
       answers-then = f .1 ∙ w .answers-then;
     }
+
+-- Refused are exactly the drops of a listed call under a header that doesn't end in '?', and the cuts of more than SEQ holds.
+pub refused-exactly : (ml? : Bool) (m : Memory) (ls : List Listing) → openSession ml? m ≡ done ls → (ts : List Step)
+    → map isRefusal (answersInMemory ml? ts m) ≡ refusedSteps ls ts (opening (heldIn m .seq))
+refused-exactly ml? m ls e ts = rw (session-in-memory ml? m ls e ts .answers-then) (refused-steps ls ts (opening (heldIn m .seq)))
 
 -- a step that gives a number, a refusal's or 21, changes nothing
 pub refused-changes-nothing : (ml? : Bool) (t : Step) (m : Memory) → 0 < numberOf (stepInMemory ml? t m) → afterStep m (stepInMemory ml? t m) ≡ m

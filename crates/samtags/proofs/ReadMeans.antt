@@ -115,7 +115,7 @@ group-means {k} {fs} {ml} {cs} h seq m u nu = record {
 
 -- ---- the text is spelled by its pieces
 
-abbrev pieceIn : List ℕ → Piece
+abbrev pub pieceIn : List ℕ → Piece
 pieceIn g = record { header = upTo comma g; skips = ledBy comma g }
 
 piece-spells : (g : List ℕ) → upTo comma g ++ ledByCommas (ledBy comma g) ≡ g
@@ -161,7 +161,7 @@ abbrev pub callsOf : List Listing → List (List Call)
 callsOf ls = map (λ (l : Listing). l .calls) ls
 
 -- what the text of a group means to the reader
-abbrev readEntries : Bool → List ℕ → Entries
+abbrev pub readEntries : Bool → List ℕ → Entries
 readEntries ml? g = entriesOf baseOf (valuesIf ml?) (pieceIn g)
 
 groups-mean : {ml? : Bool} {seq : List ℕ} {ps : List (List ℕ)} {ml : List ℕ} {gs : List Group} → GroupsRead ml? seq ps ml gs
@@ -190,6 +190,16 @@ groups-numbers no-group = refl
 groups-numbers {ml?} {seq} (a-group {g = g} long r rs) =
     and-true _ _ (entries-mean r 0 (tracked (baseOf (upTo comma g)) seq) refl .numbers) (groups-numbers rs)
 
+-- the calls of a tag that is read, over the pieces of its text
+pub tag-means : (ml? : Bool) (seq text ml : List ℕ) (ls : List Listing) → lists ml? seq text ml ≡ done ls → upperCase seq ≡ true → noU ls ≡ true
+    → TagMeans seq (cond ml? ml []) (map (readEntries ml?) (closedBy semicolon text)) (callsOf ls)
+unfolding lists
+tag-means ml? seq text ml ls e u n =
+    let i = and-then-inv (read ml? nowhere seq text ml) _ ls e in
+    let same : map listing (i .0) ≡ ls = done-inj (i .2) in
+    subst (λ (l : List Listing). TagMeans seq (cond ml? ml []) (map (readEntries ml?) (closedBy semicolon text)) (callsOf l)) same
+    (groups-mean (tag-read ml? nowhere seq text ml (i .0) (i .1) .groups) u (rw same n))
+
 -- A tag that is read: the pieces that spell its text, and that its listings are what SAMtags says of them. What a header means is the reader's:
 -- its base in upper case, and its values per base.
 pub record Read-means (ml? : Bool) (seq text ml : List ℕ) (ls : List Listing) : Type 0 where
@@ -206,12 +216,11 @@ unfolding lists
 reading-means ml? seq text ml ls e u n =
     let i = and-then-inv (read ml? nowhere seq text ml) _ ls e in
     let t = tag-read ml? nowhere seq text ml (i .0) (i .1) in
-    let same : map listing (i .0) ≡ ls = done-inj (i .2) in
     let ps = closedBy semicolon text in
-    subst (Read-means ml? seq text ml) same (record {
+    record {
       pieces = map pieceIn ps;
       spells = text-spells text (t .ends);
       numbers = groups-numbers (t .groups);
-      headers = groups-headers (t .groups);
-      means = rw (map-map (entriesOf baseOf (valuesIf ml?)) pieceIn ps) (groups-mean (t .groups) u (rw same n));
-    })
+      headers = rw (← done-inj (i .2)) (groups-headers (t .groups));
+      means = rw (map-map (entriesOf baseOf (valuesIf ml?)) pieceIn ps) (tag-means ml? seq text ml ls e u n);
+    }

@@ -3,7 +3,7 @@
 use mathlib.Core.Path.{_≡_, refl, sym, ap, _∙_, subst}
 use Prim.Native.Nat.{ℕ, zero, suc, _+_, _-_, _≤_, _<_}
 use native.Mathlib.Omega.{arith}
-use mathlib.Core.Bool.{Bool, true, false, cond, not, _&&_, _||_, or-true, and-true as and-true-right}
+use mathlib.Core.Bool.{Bool, true, false, cond, _||_, or-true, and-true as and-true-right}
 use mathlib.Core.List.{List, [], _∷_, _++_, map, map-map}
 use lib.ListN.{length, take, drop, length-drop}
 use lib.Seq.{drop-drop, take-take, length-take-le, take-length}
@@ -18,7 +18,7 @@ use Rattle.samtags.specs.Outcome.{Outcome, done, numberOf}
 use Rattle.samtags.specs.Spots.{Spot, bare, call, placeOf, Group, Listing, listing}
 use Rattle.samtags.specs.Reading.{nowhere, read, lists}
 use Rattle.samtags.specs.Session.{Step, mask, dropCalls, cut, Held, maskFrom, masked, window, stepped, afterStep, run, answers}
-use Rattle.samtags.specs.Meaning.{Sofar, opening, inside, baseStays, leftOfListing, leftOfSeq, inOpening, refuses, taken, reason, cutsNothing, next, answerTo, afterSteps, answersTo}
+use Rattle.samtags.specs.Meaning.{Sofar, opening, inside, baseStays, leftOfListing, leftOfSeq, inOpening, refuses, taken, reason, cutsNothing, next, answerTo, afterSteps, answersTo, refusedSteps, isRefusal}
 use Rattle.samtags.proofs.Outcome.{done-inj, and-then-inv}
 use Rattle.samtags.proofs.ReadWritten.{Fits}
 use Rattle.samtags.proofs.Read.{tag-read, tag-fits}
@@ -254,12 +254,8 @@ mask-never : (ls : List Listing) (ps : List ℕ) (σ : Sofar) → refuses ls (ma
 unfolding refuses
 mask-never ls ps σ = refl
 
--- a number that is neither 0 nor 21
-abbrev isRefusal : ℕ → Bool
-isRefusal n = not (eqb n 0) && not (eqb n 21)
-
--- A step's answer is a refusal just where it drops a listed call under a header that doesn't end in '?', or cuts more than SEQ holds.
-pub refused-exactly : (ls : List Listing) (t : Step) (σ : Sofar) → isRefusal (answerTo ls t σ) ≡ refuses ls t σ
+-- the answer to a step is a refusal just where the step is refused
+refused-exactly : (ls : List Listing) (t : Step) (σ : Sofar) → isRefusal (answerTo ls t σ) ≡ refuses ls t σ
 unfolding answerTo
 refused-exactly ls t σ = by-kind t (refuses ls t σ) refl
   where
@@ -270,3 +266,8 @@ refused-exactly ls t σ = by-kind t (refuses ls t σ) refl
     by-kind (dropCalls ps) false e = refl
     by-kind (cut f b) true e = refl
     by-kind (cut f b) false e = by-test (eqb (f + b) 0) (λ z. rw z) (λ z. rw z)
+
+pub refused-steps : (ls : List Listing) (ts : List Step) (σ : Sofar) → map isRefusal (answersTo ls ts σ) ≡ refusedSteps ls ts σ
+unfolding answersTo refusedSteps
+refused-steps ls [] σ = refl
+refused-steps ls (t ∷ ts) σ = rw (refused-exactly ls t σ, refused-steps ls ts (next ls t σ))

@@ -1,24 +1,25 @@
 -- What each edit does to a tag that fits its SEQ, and that the edited tag fits the SEQ that it leaves.
 -- Assumes nothing.
 use mathlib.Core.Path.{_≡_, refl, sym, ap, _∙_}
-use Prim.Native.Nat.{ℕ, suc, _+_, _-_, _≤_}
+use Prim.Native.Nat.{ℕ, _+_, _-_, _≤_}
 use native.Mathlib.Omega.{arith}
 use mathlib.Core.Bool.{Bool, true, false, cond, _&&_}
-use mathlib.Core.List.{List, [], _∷_, _++_, map, map-map}
+use mathlib.Core.List.{List, [], _∷_, map, map-map}
 use lib.ListN.{length, getD}
 use lib.Dec.{eqb}
-use Rattle.lent.specs.Lists.{every, filter, among, concatMap, isEmpty}
+use Rattle.lent.specs.Lists.{every, filter, among, isEmpty}
 use Rattle.lent.proofs.Tests.{by-test, and-true, and-true-l, and-true-r}
 use Rattle.lent.proofs.Lists.{Agree, filter-agree, filter-map, filter-all, every-filter}
 use Rattle.samtags.specs.Text.{baseOf}
 use Rattle.samtags.specs.Outcome.{done, need}
 use Rattle.samtags.specs.Spots.{Spot, bare, call, placeOf, valuesOf, Group, holds, tracked}
 use Rattle.samtags.specs.Reading.{nowhere, valuesIf, read}
-use Rattle.samtags.specs.Writing.{skipsFrom, textOf, mlOf, written}
+use Rattle.samtags.specs.Writing.{written}
 use Rattle.samtags.specs.Edits.{unlist, changed, edited, maskedTo, droppingAt, cutTo}
 use Rattle.samtags.specs.Session.{masked, window}
 use Rattle.samtags.specs.Meaning.{inside}
 use Rattle.samtags.proofs.Outcome.{need-out}
+use Rattle.samtags.proofs.SameText.{isCall, onSpots, text-same, ml-same}
 use Rattle.samtags.proofs.ReadWritten.{sized, Fits, AllFit, read-written}
 use Rattle.samtags.proofs.Read.{TagRead, tag-read, tag-denied, tag-fits, tag-some, mayDrop}
 use Rattle.samtags.proofs.Places.{unmasked, tracked-masked, mask-test, tracked-window, window-test}
@@ -34,7 +35,7 @@ maskGroup t g = withSpots g (filter (λ s. unmasked t (baseOf (g .header)) (plac
 
 -- the calls at the places become bare
 abbrev pub dropGroup : (ℕ → Bool) → Group → Group
-dropGroup named g = withSpots g (map (unlist named) (g .spots))
+dropGroup named g = onSpots (unlist named) g
 
 -- a spot a bases nearer to the front
 abbrev pub moved : ℕ → Spot → Spot
@@ -44,12 +45,9 @@ moved a (call p vs) = call (p - a) vs
 abbrev keepGroup : ℕ → ℕ → Group → Group
 keepGroup a n g = withSpots g (filter (λ s. inside a n (placeOf s)) (g .spots))
 
-abbrev moveGroup : ℕ → Group → Group
-moveGroup a g = withSpots g (map (moved a) (g .spots))
-
 -- the spots outside the n places from a on go, the others move nearer
 abbrev pub cutGroup : ℕ → ℕ → Group → Group
-cutGroup a n g = moveGroup a (keepGroup a n g)
+cutGroup a n g = onSpots (moved a) (keepGroup a n g)
 
 -- ---- lists of spots
 
@@ -95,30 +93,18 @@ sized-moved k a [] = refl
 sized-moved k a (bare p ∷ ss) = sized-moved k a ss
 sized-moved k a (call p vs ∷ ss) = ap (λ (r : Bool). eqb (length vs) k && r) (sized-moved k a ss)
 
-skips-moved : (n a : ℕ) (ss : List Spot) → skipsFrom n (map (moved a) ss) ≡ skipsFrom n ss
-skips-moved n a [] = refl
-skips-moved n a (bare p ∷ ss) = skips-moved (suc n) a ss
-skips-moved n a (call p vs ∷ ss) = ap (λ (r : List ℕ). n ∷ r) (skips-moved 0 a ss)
-
-values-moved : (a : ℕ) (ss : List Spot) → concatMap valuesOf (map (moved a) ss) ≡ concatMap valuesOf ss
-values-moved a [] = refl
-values-moved a (bare p ∷ ss) = values-moved a ss
-values-moved a (call p vs ∷ ss) = ap (λ (r : List ℕ). vs ++ r) (values-moved a ss)
-
 -- places are not written
-text-moved : (a : ℕ) (gs : List Group) → textOf (map (moveGroup a) gs) ≡ textOf gs
-unfolding textOf
-text-moved a [] = refl
-text-moved a (g ∷ gs) = rw (skips-moved 0 a (g .spots), text-moved a gs)
-
-ml-moved : (a : ℕ) (gs : List Group) → mlOf (map (moveGroup a) gs) ≡ mlOf gs
-unfolding mlOf
-ml-moved a [] = refl
-ml-moved a (g ∷ gs) = rw (values-moved a (g .spots), ml-moved a gs)
-
-written-moved : (a : ℕ) (gs : List Group) → written (map (moveGroup a) gs) ≡ written gs
+written-moved : (a : ℕ) (gs : List Group) → written (map (onSpots (moved a)) gs) ≡ written gs
 unfolding written
-written-moved a gs = rw (text-moved a gs, ml-moved a gs)
+written-moved a gs = rw (text-same (moved a) calls-stay gs, ml-same (moved a) values-stay gs)
+  where
+    calls-stay : (s : Spot) → isCall (moved a s) ≡ isCall s
+    calls-stay (bare p) = refl
+    calls-stay (call p vs) = refl
+
+    values-stay : (s : Spot) → valuesOf (moved a s) ≡ valuesOf s
+    values-stay (bare p) = refl
+    values-stay (call p vs) = refl
 
 -- ---- a group after a step fits what SEQ then is
 
@@ -233,7 +219,7 @@ module _ (ml? : Bool) (seq text ml : List ℕ) (gs : List Group) (reads : read m
       → edited (cutTo a (window a n seq)) ml? seq text ml ≡ done (written (map (cutGroup a n) gs))
   unfolding edited cutTo
   cut-answers a n h =
-      rw (reads, all-same ml? seq _ (keepGroup a n) (λ g f. cut-changed a n ml? seq g h f) gs (tag-fits tag), ← map-map (moveGroup a) (keepGroup a n) gs, written-moved a (map (keepGroup a n) gs))
+      rw (reads, all-same ml? seq _ (keepGroup a n) (λ g f. cut-changed a n ml? seq g h f) gs (tag-fits tag), ← map-map (onSpots (moved a)) (keepGroup a n) gs, written-moved a (map (keepGroup a n) gs))
 
   pub cut-reads : (a n : ℕ) (lent : List ℕ)
       → read ml? nowhere (window a n seq) (written (map (cutGroup a n) gs) .text) (cond ml? (written (map (cutGroup a n) gs) .ml) lent)

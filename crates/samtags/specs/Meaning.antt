@@ -101,3 +101,13 @@ unfoldable pub answersTo : List Listing → List Step → Sofar → List ℕ
 unfolding next answerTo
 answersTo ls [] σ = []
 answersTo ls (t ∷ ts) σ = answerTo ls t σ ∷ answersTo ls ts (next ls t σ)
+
+-- which of the steps are refused
+unfoldable pub refusedSteps : List Listing → List Step → Sofar → List Bool
+unfolding next refuses
+refusedSteps ls [] σ = []
+refusedSteps ls (t ∷ ts) σ = refuses ls t σ ∷ refusedSteps ls ts (next ls t σ)
+
+-- an answer is a refusal: neither 0 nor 21
+abbrev pub isRefusal : ℕ → Bool
+isRefusal n = not (eqb n 0) && not (eqb n 21)

@@ -19,7 +19,8 @@ use Rattle.samtags.specs.Spots.{Call}
 abbrev pub letterU : ℕ
 letterU = 85
 
--- A base x of SEQ is of the kind b. N is any base; U is what an RNA read shows as T. SAM makes no difference between cases.
+-- A base x of SEQ is of the kind b. N is any base; U is for RNA, which SEQ may show as T. SAM v1 lets nothing be assumed of a letter's case, so a
+-- 'c' is a C.
 unfoldable pub ofKind : ℕ → ℕ → Bool
 unfolding sameInAnyCase
 ofKind b x = eqb b letterN || cond (eqb b letterU) (sameInAnyCase x 84 || sameInAnyCase x letterU) (sameInAnyCase x b)

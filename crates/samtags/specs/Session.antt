@@ -110,7 +110,7 @@ lengthsInBuffers ml? m =
     leb (m .lengths .seq) (length (m .seq)) && leb (m .lengths .text) (length (m .text))
     && cond ml? (leb (m .lengths .ml) (length (m .ml))) true
 
--- f of memory whose lengths are in order: 1, then 2
+-- the outcome where the lengths are in order, else 1 or 2
 abbrev pub inOrder : {A : Type 0} → Bool → Memory → Outcome A → Outcome A
 inOrder ml? m o = need (lengthsInDomain ml? (m .lengths)) 1 (need (lengthsInBuffers ml? m) 2 o)
 
