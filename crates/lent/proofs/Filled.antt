@@ -8,7 +8,9 @@ use native.Mathlib.Numerals.{add-one}
 use native.Mathlib.Omega.{arith}
 use lib.ListN.{length, getD, take, drop, set, length-append, length-drop, drop-of-length-le}
 use lib.Seq.{take-at, drop-at, drop-drop, drop-cons, take-all, set-at, append-snoc, getD-append-add, getD-drop}
-use Rattle.lent.specs.Filled.{over, filled}
+use Rattle.lent.specs.Filled.{over, leaves}
+use Rattle.lent.specs.Outcome.{refused, done}
+use Rattle.lent.specs.declared.Refusal.{Refusal}
 
 module _ {A : Type 0} where
   pub over-none : (out : List A) → out ≡ over [] out
@@ -47,19 +49,21 @@ module _ {A : Type 0} where
       let e : length l + (i - length l) ≡ i = omega arith in
       rw e at (getD-append-add l (drop (length l) out) (i - length l) d ∙ getD-drop (length l) out (i - length l) d)
 
-  pub filled-done : (l out : List A) → filled 0 l out ≡ over l out
-  unfolding filled
-  filled-done l out = refl
+  -- a list as long as the row is all that the row holds
+  pub over-all : (l out : List A) → length l ≡ length out → over l out ≡ l
+  unfolding over
+  over-all l out e =
+      let h : length out ≤ length l = omega arith in
+      rw (drop-of-length-le out h, append-nil l)
 
-  pub filled-refused : (n : ℕ) (l out : List A) → 0 < n → filled n l out ≡ out
-  unfolding filled
-  filled-refused zero l out h = let z : ⊥ = omega arith in absurd z
-  filled-refused (suc n) l out h = refl
+module _ {A B : Type 0} where
+  pub leaves-done : (part : A → List B) (a : A) (row : List B) → leaves part (done a) row ≡ over (part a) row
+  unfolding leaves
+  leaves-done part a row = refl
 
-  pub length-filled : (n : ℕ) (l out : List A) → length l ≤ length out → length (filled n l out) ≡ length out
-  unfolding filled
-  length-filled zero l out h = length-over l out h
-  length-filled (suc n) l out h = refl
+  pub leaves-refused : (part : A → List B) (r : Refusal) (row : List B) → leaves part (refused r) row ≡ row
+  unfolding leaves
+  leaves-refused part r row = refl
 
 -- Two outcomes that both equal what a definition gives are the same: each public call's uniqueness is an instance.
 pub settled : {A : Type 0} {x : A} (a b : A) → a ≡ x → b ≡ x → a ≡ b

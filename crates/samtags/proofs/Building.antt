@@ -21,12 +21,12 @@ use Rattle.pattern.specs.declared.MethylationMode.{MethylationMode}
 use Rattle.samtags.specs.Bytes.{comma, semicolon}
 use Rattle.samtags.specs.Decimal.{digits}
 use Rattle.samtags.specs.Text.{baseOf}
-use Rattle.samtags.specs.Outcome.{done}
+use Rattle.lent.specs.Outcome.{done}
 use Rattle.samtags.specs.Spots.{Spot, bare, call, placeOf, valuesOf, Group, Call, Listing, callsIn, listing, holds, placesFrom, tracked}
 use Rattle.samtags.specs.Reading.{valuesIf, lists, inDomain, readTag}
 use Rattle.samtags.specs.Writing.{Tag, skipsFrom, entriesText, groupText, textOf, mlOf, written}
 use Rattle.samtags.specs.Building.{Evidence, calledAt, spotAt, headerOf, strandGroup, hasCalls, buildTag, evidenceInDomain, evidenceAgrees, secondFirst, inJoinOrder, joinedGroups, joinedTag, callAt, callsFrom, evidenceCalls}
-use Rattle.samtags.proofs.Outcome.{done-inj, need-test, need-rest}
+use Rattle.lent.proofs.Outcome.{done-inj, need-test, need-rest}
 use Rattle.samtags.proofs.Decimal.{digits-few}
 use Rattle.samtags.proofs.SameText.{isCall, onSpots, text-same, ml-same}
 use Rattle.samtags.proofs.ReadWritten.{sized, Fits, AllFit}

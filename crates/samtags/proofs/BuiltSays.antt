@@ -13,7 +13,7 @@ use Rattle.pattern.specs.declared.ConversionPattern.the-variants.{CToT, GToA}
 use Rattle.pattern.specs.declared.MethylationMode.{MethylationMode}
 use Rattle.samtags.specs.Bytes.{ascii, semicolon}
 use Rattle.samtags.specs.Decimal.{digits}
-use Rattle.samtags.specs.Outcome.{done}
+use Rattle.lent.specs.Outcome.{done}
 use Rattle.samtags.specs.Spots.{Group, Listing, listing}
 use Rattle.samtags.specs.Reading.{lists}
 use Rattle.samtags.specs.Writing.{Tag, skipsFrom, textOf, written}

@@ -11,7 +11,7 @@ use lib.ListN.{replicate}
 use Rattle.samtags.specs.Bytes.{ascii}
 use Rattle.samtags.specs.Decimal.{digits, value}
 use Rattle.samtags.specs.Text.{valuesPer, endsInQuestion}
-use Rattle.samtags.specs.Outcome.{Outcome, done, refuse, andThen}
+use Rattle.lent.specs.Outcome.{Outcome, done, refuse, andThen}
 use Rattle.samtags.specs.Spots.{Call, Listing}
 use Rattle.samtags.specs.Reading.{readTag, callList}
 use Rattle.samtags.specs.Writing.{Tag}

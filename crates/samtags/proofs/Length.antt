@@ -16,12 +16,12 @@ use Rattle.lent.proofs.Lists.{filter-length}
 use Rattle.samtags.specs.Bytes.{comma, semicolon}
 use Rattle.samtags.specs.Decimal.{digits, value}
 use Rattle.samtags.specs.Text.{upTo, ledBy, closedBy, push, baseOf}
-use Rattle.samtags.specs.Outcome.{done}
+use Rattle.lent.specs.Outcome.{done}
 use Rattle.samtags.specs.Spots.{Spot, bare, call, placeOf, valuesOf, Group, callsIn}
 use Rattle.samtags.specs.Reading.{read}
 use Rattle.samtags.specs.Writing.{Tag, skipsFrom, entriesText, textOf, mlOf, written}
 use Rattle.samtags.specs.Edits.{Edit, unlist, changed, edited}
-use Rattle.samtags.proofs.Outcome.{done-inj, and-then-inv}
+use Rattle.lent.proofs.Outcome.{done-inj, and-then-inv}
 use Rattle.samtags.proofs.Decimal.{digits-fit, value-lt, number-some}
 use Rattle.samtags.proofs.Read.{SpotsRead, no-entry, an-entry, GroupsRead, no-group, a-group, tag-read, tag-used, calls-bare}
 

@@ -1,5 +1,4 @@
 pub mod Examples
-pub mod Outcome
 pub mod Decimal
 pub mod Text
 pub mod ReadWritten

@@ -12,13 +12,13 @@ use Rattle.lent.proofs.Tests.{by-test, and-true-l, and-true-r}
 use Rattle.lent.proofs.Lists.{drop-step, getD-step, map-ext}
 use Rattle.samtags.specs.Bytes.{ascii, letterN}
 use Rattle.samtags.specs.Text.{baseOf}
-use Rattle.samtags.specs.Outcome.{Outcome, done, andThen}
+use Rattle.lent.specs.Outcome.{Outcome, done, andThen}
 use Rattle.samtags.specs.Spots.{Spot, bare, call, placeOf, Group, Call, Listing, callsIn, listing}
 use Rattle.samtags.specs.Reading.{nowhere, read, lists}
 use Rattle.samtags.specs.Writing.{Tag, written}
 use Rattle.samtags.specs.Edits.{edited, maskedTo}
 use Rattle.samtags.specs.Session.{maskFrom, masked}
-use Rattle.samtags.proofs.Outcome.{done-inj, and-then-inv}
+use Rattle.lent.proofs.Outcome.{done-inj, and-then-inv}
 use Rattle.samtags.proofs.Places.{unmasked}
 use Rattle.samtags.proofs.Steps.{maskGroup, mask-answers, mask-reads}
 

@@ -18,7 +18,7 @@ use Rattle.pattern.specs.Case.{upper}
 use Rattle.samtags.specs.Bytes.{ascii, comma, semicolon, isDigit, isMark, isAscii}
 use Rattle.samtags.specs.Decimal.{isNumber, value}
 use Rattle.samtags.specs.Text.{closedBy, baseOf, glue, withoutMarks, codesOf, valuesPer}
-use Rattle.samtags.specs.Outcome.{done}
+use Rattle.lent.specs.Outcome.{done}
 use Rattle.samtags.specs.Spots.{Spot, bare, call, Group, Call, Listing, callsIn, listing, tracked}
 use Rattle.samtags.specs.Reading.{nowhere, readSpots, valuesIf, readGroup, readGroups, read, lists, inDomain, readTag}
 use Rattle.samtags.specs.Samtags.{letterU, ordinal, noCall, GroupMeans, TagMeans, noGroup, aGroup, ledByCommas, pieceText, spelled, Header, isCodeLetter, isMarkText, isHeader, headerText, codeCount, Spelled, isSpelling, pieceOf, meaningOf}

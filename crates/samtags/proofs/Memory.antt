@@ -11,14 +11,14 @@ use borrow.Author.Tests.{leb-true, le-leb}
 use Rattle.lent.specs.Lists.{among}
 use Rattle.lent.proofs.Tests.{by-test, and-true, and-true-l, and-true-r}
 use Rattle.lent.proofs.Filled.{over-front, length-over}
-use Rattle.samtags.specs.Outcome.{Outcome, refused, done, andThen, numberOf}
+use Rattle.lent.specs.Outcome.{Outcome, refused, done, andThen, numberOf}
 use Rattle.samtags.specs.Spots.{Listing}
 use Rattle.samtags.specs.Reading.{lists}
 use Rattle.samtags.specs.Writing.{Tag}
 use Rattle.samtags.specs.Edits.{edited, maskedTo, droppingAt, cutTo}
 use Rattle.samtags.specs.Session.{Step, mask, dropCalls, cut, Held, masked, window, heldWith, stepped, afterStep, run, answers, Memory, heldIn, stored, lengthsInDomain, lengthsInBuffers, inOrder, openSession, stepInMemory, runInMemory, answersInMemory}
 use Rattle.samtags.specs.Meaning.{opening, leftOfListing, leftOfSeq, afterSteps, answersTo, refusedSteps, isRefusal}
-use Rattle.samtags.proofs.Outcome.{need-test, need-rest}
+use Rattle.lent.proofs.Outcome.{need-test, need-rest}
 use Rattle.samtags.proofs.Length.{never-longer}
 use Rattle.samtags.proofs.SessionMeaning.{mask-length, session-meaning, refused-steps}
 

@@ -15,11 +15,11 @@ use Rattle.lent.proofs.Tests.{and-true, and-true-l, and-true-r}
 use Rattle.samtags.specs.Bytes.{comma, semicolon, isAscii}
 use Rattle.samtags.specs.Decimal.{isNumber, value}
 use Rattle.samtags.specs.Text.{upTo, ledBy, closedBy, baseOf}
-use Rattle.samtags.specs.Outcome.{done, need}
+use Rattle.lent.specs.Outcome.{done, need}
 use Rattle.samtags.specs.Spots.{Spot, bare, call, placeOf, valuesOf, Group, callsIn, tracked}
 use Rattle.samtags.specs.Reading.{readEntry, readSpots, valuesIf, deniedTo, readGroup, readGroups, read}
 use Rattle.samtags.specs.Writing.{mlOf}
-use Rattle.samtags.proofs.Outcome.{done-inj, need-test, need-rest, and-then-inv, with-first-inv, need-out, need-both}
+use Rattle.lent.proofs.Outcome.{done-inj, need-test, need-rest, and-then-inv, with-first-inv, need-out, need-both}
 use Rattle.samtags.proofs.Text.{lacks, up-to-every, up-to-lacks, closed-by-every, closed-by-lacks, closed-by-some}
 use Rattle.samtags.proofs.ReadWritten.{sized, AllFit}
 

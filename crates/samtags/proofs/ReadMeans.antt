@@ -16,11 +16,11 @@ use Rattle.lent.proofs.Lists.{drop-step, getD-step, drop-more}
 use Rattle.samtags.specs.Bytes.{comma, semicolon}
 use Rattle.samtags.specs.Decimal.{isNumber, value}
 use Rattle.samtags.specs.Text.{upTo, ledBy, closedBy, push, baseOf}
-use Rattle.samtags.specs.Outcome.{done}
+use Rattle.lent.specs.Outcome.{done}
 use Rattle.samtags.specs.Spots.{Spot, bare, call, Group, Call, Listing, callsIn, listing, tracked}
 use Rattle.samtags.specs.Reading.{nowhere, valuesIf, read, lists}
 use Rattle.samtags.specs.Samtags.{letterU, Names, ordinal, noCall, Entries, GroupMeans, TagMeans, noGroup, aGroup, Piece, ledByCommas, spelled, entriesOf}
-use Rattle.samtags.proofs.Outcome.{done-inj, and-then-inv}
+use Rattle.lent.proofs.Outcome.{done-inj, and-then-inv}
 use Rattle.samtags.proofs.Read.{SpotsRead, no-entry, an-entry, GroupsRead, no-group, a-group, tag-read, calls-bare}
 use Rattle.samtags.proofs.Text.{closed-by-some}
 use Rattle.samtags.proofs.Names.{upperCase, base-upper, tracked-names}

@@ -15,7 +15,7 @@ use Rattle.lent.proofs.Lists.{every-append, drop-step, take-step, take-whole, l
 use Rattle.samtags.specs.Bytes.{comma, semicolon, isAscii}
 use Rattle.samtags.specs.Decimal.{digits}
 use Rattle.samtags.specs.Text.{closedBy, baseOf}
-use Rattle.samtags.specs.Outcome.{done}
+use Rattle.lent.specs.Outcome.{done}
 use Rattle.samtags.specs.Spots.{Spot, bare, call, placeOf, valuesOf, Group, tracked}
 use Rattle.samtags.specs.Reading.{nowhere, readSpots, valuesIf, readGroup, readGroups, read}
 use Rattle.samtags.specs.Writing.{skipsFrom, entriesText, textOf, mlOf}

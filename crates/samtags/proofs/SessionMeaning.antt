@@ -14,12 +14,12 @@ use Rattle.lent.proofs.Tests.{by-test}
 use Rattle.lent.proofs.Lists.{filter-ext, filter-all, map-ext, drop-take}
 use Rattle.samtags.specs.Bytes.{letterN}
 use Rattle.samtags.specs.Text.{baseOf}
-use Rattle.samtags.specs.Outcome.{Outcome, done, numberOf}
+use Rattle.lent.specs.Outcome.{Outcome, done, numberOf}
 use Rattle.samtags.specs.Spots.{Spot, bare, call, placeOf, Group, Listing, listing}
 use Rattle.samtags.specs.Reading.{nowhere, read, lists}
 use Rattle.samtags.specs.Session.{Step, mask, dropCalls, cut, Held, maskFrom, masked, window, stepped, afterStep, run, answers}
 use Rattle.samtags.specs.Meaning.{Sofar, opening, inside, baseStays, leftOfListing, leftOfSeq, inOpening, refuses, taken, reason, cutsNothing, next, answerTo, afterSteps, answersTo, refusedSteps, isRefusal}
-use Rattle.samtags.proofs.Outcome.{done-inj, and-then-inv}
+use Rattle.lent.proofs.Outcome.{done-inj, and-then-inv}
 use Rattle.samtags.proofs.ReadWritten.{Fits}
 use Rattle.samtags.proofs.Read.{tag-read, tag-fits}
 use Rattle.samtags.proofs.Places.{tracked-inside}

@@ -11,14 +11,14 @@ use Rattle.lent.specs.Lists.{every, filter, among, isEmpty}
 use Rattle.lent.proofs.Tests.{by-test, and-true, and-true-l, and-true-r}
 use Rattle.lent.proofs.Lists.{Agree, filter-agree, filter-map, filter-all, every-filter}
 use Rattle.samtags.specs.Text.{baseOf}
-use Rattle.samtags.specs.Outcome.{done, need}
+use Rattle.lent.specs.Outcome.{done, need}
 use Rattle.samtags.specs.Spots.{Spot, bare, call, placeOf, valuesOf, Group, holds, tracked}
 use Rattle.samtags.specs.Reading.{nowhere, valuesIf, read}
 use Rattle.samtags.specs.Writing.{written}
 use Rattle.samtags.specs.Edits.{unlist, changed, edited, maskedTo, droppingAt, cutTo}
 use Rattle.samtags.specs.Session.{masked, window}
 use Rattle.samtags.specs.Meaning.{inside}
-use Rattle.samtags.proofs.Outcome.{need-out}
+use Rattle.lent.proofs.Outcome.{need-out}
 use Rattle.samtags.proofs.SameText.{isCall, onSpots, text-same, ml-same}
 use Rattle.samtags.proofs.ReadWritten.{sized, Fits, AllFit, read-written}
 use Rattle.samtags.proofs.Read.{TagRead, tag-read, tag-denied, tag-fits, tag-some, mayDrop}

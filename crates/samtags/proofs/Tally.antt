@@ -10,11 +10,11 @@ use borrow.Author.Tests.{leb-false, lt-leb, ltb-true, lt-ltb, not-true}
 use Rattle.lent.specs.Lists.{filter, concatMap}
 use Rattle.lent.proofs.Tests.{by-test, test-ext}
 use Rattle.lent.proofs.Lists.{filter-append, concatMap-append}
-use Rattle.samtags.specs.Outcome.{done}
+use Rattle.lent.specs.Outcome.{done}
 use Rattle.samtags.specs.Spots.{Spot, bare, call, valuesOf, Group, Call, Listing, callsIn, listing}
 use Rattle.samtags.specs.Reading.{nowhere, read, lists, Tally, isAbove, isBelow, tallyOf}
 use Rattle.samtags.specs.Writing.{mlOf}
-use Rattle.samtags.proofs.Outcome.{done-inj, and-then-inv}
+use Rattle.lent.proofs.Outcome.{done-inj, and-then-inv}
 use Rattle.samtags.proofs.Read.{tag-read, tag-used}
 
 -- a value is below just where it is not above

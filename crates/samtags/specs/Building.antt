@@ -14,7 +14,7 @@ use Rattle.pattern.specs.declared.ConversionPattern.the-variants.{CToT, GToA}
 use Rattle.pattern.specs.declared.MethylationMode.{MethylationMode}
 use Rattle.pattern.specs.declared.MethylationMode.the-variants.{Disabled, EmSeq, Taps}
 use Rattle.samtags.specs.Bytes.{ascii}
-use Rattle.samtags.specs.Outcome.{Outcome, done, need}
+use Rattle.lent.specs.Outcome.{Outcome, done, need}
 use Rattle.samtags.specs.Spots.{Spot, bare, call, Group, Call, callsIn, placesFrom}
 use Rattle.samtags.specs.Writing.{Tag, written}
 use Rattle.samtags.specs.Edits.{inRoom}

@@ -9,7 +9,7 @@ use lib.Dec.{leb, ltb, eqb}
 use Rattle.lent.specs.Lists.{filter, among}
 use Rattle.samtags.specs.Bytes.{letterN}
 use Rattle.samtags.specs.Text.{baseOf}
-use Rattle.samtags.specs.Outcome.{Outcome, done, refuse, need, andThen}
+use Rattle.lent.specs.Outcome.{Outcome, done, refuse, need, andThen}
 use Rattle.samtags.specs.Spots.{Spot, bare, call, placeOf, Group, holds}
 use Rattle.samtags.specs.Reading.{nowhere, read, inDomain}
 use Rattle.samtags.specs.Writing.{Tag, written}

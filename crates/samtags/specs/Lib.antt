@@ -1,7 +1,6 @@
 pub mod Bytes
 pub mod Decimal
 pub mod Text
-pub mod Outcome
 pub mod Spots
 pub mod Reading
 pub mod Writing

@@ -10,7 +10,7 @@ use Rattle.lent.specs.Lists.{every, filter, isEmpty, lastOr}
 use Rattle.samtags.specs.Bytes.{comma, semicolon, isAscii}
 use Rattle.samtags.specs.Decimal.{isNumber, value}
 use Rattle.samtags.specs.Text.{upTo, ledBy, closedBy, baseOf, endsInQuestion, valuesPer}
-use Rattle.samtags.specs.Outcome.{Outcome, done, need, andThen, withFirst}
+use Rattle.lent.specs.Outcome.{Outcome, done, need, andThen, withFirst}
 use Rattle.samtags.specs.Spots.{Spot, bare, call, Group, Call, Listing, listing, tracked}
 
 -- no place

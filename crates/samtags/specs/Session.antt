@@ -9,7 +9,7 @@ use lib.Dec.{leb, eqb}
 use Rattle.lent.specs.Lists.{among}
 use Rattle.lent.specs.Filled.{over}
 use Rattle.samtags.specs.Bytes.{letterN}
-use Rattle.samtags.specs.Outcome.{Outcome, refused, done, need, andThen, numberOf}
+use Rattle.lent.specs.Outcome.{Outcome, refused, done, need, andThen, numberOf}
 use Rattle.samtags.specs.Spots.{Listing}
 use Rattle.samtags.specs.Reading.{lists}
 use Rattle.samtags.specs.Writing.{Tag}

@@ -4,7 +4,9 @@
 use Prim.Native.Nat.{ℕ}
 use mathlib.Core.Bool.{Bool, true, false}
 use mathlib.Core.List.{List, [], _∷_}
-use Rattle.samtags.specs.declared.Refusal.{Refusal}
+use Rattle.lent.specs.declared.Refusal.{Refusal}
+use Rattle.lent.specs.declared.Written.{Written}
+use Rattle.lent.specs.declared.Written.the-variants.{Done, Refused}
 
 pub data Outcome (A : Type 0) : Type 0 where
   refused : Refusal → Outcome A
@@ -30,6 +32,11 @@ module _ {A : Type 0} where
 
 module _ {A B : Type 0} where
   -- the refusal passed on, or f of what was asked for
+  abbrev pub onDone : (A → B) → Outcome A → Outcome B
+  onDone f (refused r) = refused r
+  onDone f (done a) = done (f a)
+
+  -- the refusal passed on, or what f comes to
   abbrev pub andThen : Outcome A → (A → Outcome B) → Outcome B
   andThen (refused r) f = refused r
   andThen (done a) f = f a
@@ -38,3 +45,8 @@ module _ {A B : Type 0} where
   abbrev pub withFirst : List A → ℕ → (A → List A → Outcome B) → Outcome B
   withFirst [] n f = refuse n
   withFirst (x ∷ xs) n f = f x xs
+
+-- each case of `Written` with the scope's number and values: 0 and how many entries, or the refusal
+abbrev pub says : Written → Outcome ℕ
+says (Done n) = done n
+says (Refused r) = refused r

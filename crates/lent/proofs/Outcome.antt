@@ -5,7 +5,7 @@ use Prim.Native.Nat.{ℕ}
 use native.Mathlib.Omega.{arith}
 use mathlib.Core.Bool.{Bool, true, false, _&&_}
 use mathlib.Core.List.{List, [], _∷_}
-use Rattle.samtags.specs.Outcome.{Outcome, refused, done, need, andThen, withFirst}
+use Rattle.lent.specs.Outcome.{Outcome, refused, done, need, andThen, withFirst}
 
 module _ {A : Type 0} where
   pub done-inj : {a b : A} → done a ≡ done b → a ≡ b

@@ -1,0 +1,98 @@
+-- Where an alignment puts a read's bases: SAM v1's table of CIGAR operations, the walk forward from the alignment's start, the walk backward
+-- from its end, and the public call's outcome.
+-- Assumes nothing.
+use Prim.Native.Nat.{ℕ, zero, suc, _+_, _-_, _/_, _%_}
+use mathlib.Core.Bool.{Bool, true, false, cond, _&&_}
+use mathlib.Core.List.{List, [], _∷_, _++_, reverse}
+use lib.IntN.{ℤ, pos, negsuc}
+use lib.ListN.{length, replicate}
+use lib.Dec.{leb}
+use Rattle.lent.specs.Lists.{every, among}
+use Rattle.lent.specs.Outcome.{Outcome, done, need}
+
+-- ---- one operation: a BAM word is length times 16 plus kind, the kinds 0 to 8 being M I D N S H P = X
+
+abbrev pub lengthOf : ℕ → ℕ
+lengthOf word = word / 16
+
+abbrev pub kindOf : ℕ → ℕ
+kindOf word = word % 16
+
+abbrev pub isKnown : ℕ → Bool
+isKnown word = leb (kindOf word) 8
+
+-- M I S = X take bases of the read
+abbrev pub takesBases : ℕ → Bool
+takesBases kind = among (0 ∷ 1 ∷ 4 ∷ 7 ∷ 8 ∷ []) kind
+
+-- M D N = X take places of the reference
+abbrev pub takesPlaces : ℕ → Bool
+takesPlaces kind = among (0 ∷ 2 ∷ 3 ∷ 7 ∷ 8 ∷ []) kind
+
+-- how many bases of the read an operation takes, and how many places of the reference
+abbrev pub basesTaken : ℕ → ℕ
+basesTaken word = cond (takesBases (kindOf word)) (lengthOf word) 0
+
+abbrev pub placesTaken : ℕ → ℕ
+placesTaken word = cond (takesPlaces (kindOf word)) (lengthOf word) 0
+
+-- the same of all operations
+abbrev pub queryLength : List ℕ → ℕ
+queryLength [] = 0
+queryLength (w ∷ ws) = basesTaken w + queryLength ws
+
+abbrev pub referenceSpan : List ℕ → ℕ
+referenceSpan [] = 0
+referenceSpan (w ∷ ws) = placesTaken w + referenceSpan ws
+
+-- ---- the walk: each base's place, or -1 where the base has none
+
+abbrev pub missing : ℤ
+missing = negsuc 0
+
+-- n places one after the other: upward from p, and downward from the one before e
+abbrev pub upFrom : ℕ → ℕ → List ℤ
+upFrom p zero = []
+upFrom p (suc n) = pos p ∷ upFrom (suc p) n
+
+abbrev pub downFrom : ℕ → ℕ → List ℤ
+downFrom e zero = []
+downFrom e (suc n) = pos (e - 1) ∷ downFrom (e - 1) n
+
+-- the bases of one operation, given the places that it would have
+abbrev pub placed : ℕ → List ℤ → List ℤ
+placed word places = cond (takesPlaces (kindOf word)) places (replicate (basesTaken word) missing)
+
+-- from the first operation on, where p is the next place of the reference
+abbrev pub forward : ℕ → List ℕ → List ℤ
+forward p [] = []
+forward p (w ∷ ws) = placed w (upFrom p (basesTaken w)) ++ forward (p + placesTaken w) ws
+
+-- from the last operation back, the operations being given in that order, where e is the place behind what is left of the alignment
+abbrev pub backward : ℕ → List ℕ → List ℤ
+backward e [] = []
+backward e (w ∷ ws) = placed w (downFrom e (basesTaken w)) ++ backward (e - placesTaken w) ws
+
+-- a forward read from the alignment's start, a reverse read from its end
+abbrev pub readPlaces : Bool → List ℕ → ℕ → List ℤ
+readPlaces false words start = forward start words
+readPlaces true words start = backward (start + referenceSpan words) (reverse words)
+
+-- ---- the public call
+
+-- a start is neither negative nor too large
+abbrev pub isStart : ℤ → Bool
+isStart (pos n) = leb n 2147483647
+isStart (negsuc n) = false
+
+abbrev pub startOf : ℤ → ℕ
+startOf (pos n) = n
+startOf (negsuc n) = 0
+
+-- 13 for an unknown kind at any word or for the start, then 1, last 12 where the row lent for the places is too short
+abbrev pub queryPlaces : List ℕ → ℤ → Bool → ℕ → Outcome (List ℤ)
+queryPlaces words start reversed room =
+    need (every isKnown words && isStart start) 13
+    (need (leb (length words) 65535 && leb (queryLength words) 16000) 1
+    (need (leb (queryLength words) room) 12
+    (done (readPlaces reversed words (startOf start)))))

@@ -1,0 +1,2 @@
+pub mod Cigar
+pub mod Reference

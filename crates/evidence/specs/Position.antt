@@ -1,0 +1,33 @@
+-- The evidence of one position: with nothing counted, with one base more, and gated.
+-- Assumes nothing.
+use Prim.Native.Nat.{ℕ, _+_, min}
+use mathlib.Core.Bool.{Bool, false, cond}
+use lib.Dec.{eqb}
+use Rattle.pattern.specs.Case.{upper}
+use Rattle.pattern.specs.Patterns.{basesOf}
+use Rattle.pattern.specs.declared.ConversionPattern.{ConversionPattern}
+use Rattle.evidence.specs.declared.MethylationEvidence.{MethylationEvidence}
+
+-- a count stops at the largest u32
+abbrev pub capped : ℕ → ℕ
+capped n = min 4294967295 n
+
+-- one more where the base is the one that is counted
+abbrev pub countedIf : Bool → ℕ → ℕ
+countedIf is n = cond is (capped (n + 1)) n
+
+-- nothing counted yet
+abbrev pub fresh : Bool → MethylationEvidence
+fresh informative? = record { informative = informative?; unconverted-count = 0; converted-count = 0 }
+
+-- one read's base counted, in any case: as the pattern's unconverted base, as its converted one, or as neither
+abbrev pub counted : MethylationEvidence → ℕ → ConversionPattern → MethylationEvidence
+counted e base p = record {
+  informative = e .informative;
+  unconverted-count = countedIf (eqb (upper base) (basesOf p .unconverted)) (e .unconverted-count);
+  converted-count = countedIf (eqb (upper base) (basesOf p .converted)) (e .converted-count);
+}
+
+-- a position that is not informative has no counts
+abbrev pub gated : MethylationEvidence → MethylationEvidence
+gated e = cond (e .informative) e (fresh false)
