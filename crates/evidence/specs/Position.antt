@@ -18,14 +18,14 @@ countedIf is n = cond is (capped (n + 1)) n
 
 -- nothing counted yet
 abbrev pub fresh : Bool → MethylationEvidence
-fresh informative? = record { informative = informative?; unconverted-count = 0; converted-count = 0 }
+fresh informative? = record { informative = informative?; unconverted = 0; converted = 0 }
 
 -- one read's base counted, in any case: as the pattern's unconverted base, as its converted one, or as neither
 abbrev pub counted : MethylationEvidence → ℕ → ConversionPattern → MethylationEvidence
 counted e base p = record {
   informative = e .informative;
-  unconverted-count = countedIf (eqb (upper base) (basesOf p .unconverted)) (e .unconverted-count);
-  converted-count = countedIf (eqb (upper base) (basesOf p .converted)) (e .converted-count);
+  unconverted = countedIf (eqb (upper base) (basesOf p .unconverted)) (e .unconverted);
+  converted = countedIf (eqb (upper base) (basesOf p .converted)) (e .converted);
 }
 
 -- a position that is not informative has no counts
