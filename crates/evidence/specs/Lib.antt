@@ -1,3 +1,4 @@
 pub mod Position
 pub mod Reads
 pub mod Columns
+pub mod Row

@@ -4,6 +4,12 @@
 // and converted. No public function asks anything of its caller, and each contract is an equation with a definition of specs/.
 ghost use mathlib.Core.Path.{_≡_};
 ghost use Rattle.evidence.specs.Position.{fresh, countedIf, counted, gated};
+ghost use lib.ListN.{length};
+ghost use Rattle.lent.specs.Outcome.{says};
+ghost use Rattle.lent.specs.Filled.{leaves};
+ghost use Rattle.evidence.specs.Row.{gatedRow, rowOf, recordsToGate};
+use lent::Refusal;
+use lent::Written;
 use pattern::ConversionPattern;
 
 // The evidence of one position: whether it carries a call for the strand, and how many of the reads that were counted there show the
@@ -63,4 +69,39 @@ fn counted_if(is: bool, count: u32) -> u32
         return count;
     }
     count + 1
+}
+
+// Gates a lent row of evidence records, as `gate_to_informative` gates the columns: 1 above 16,000 records, and else each record gated.
+pub fn gate_row(row: &mut [MethylationEvidence]) -> Written
+    ensures { λ r.
+        ⌜ (says r ≡ rowOf (length (now (row .entry))))
+        × (now (row .exit) ≡ leaves (λ n. gatedRow (now (row .entry))) (rowOf (length (now (row .entry)))) (now (row .entry))) ⌝ }
+{
+    let n = records_to_gate(row.len());
+    let mut i = 0;
+    while i < n {
+        let e = row[i];
+        row[i] = e.gated();
+        i += 1;
+    }
+    answer_for_row(row.len())
+}
+
+// All records of a row that the domain allows, none of a longer one.
+fn records_to_gate(records: usize) -> usize
+    ensures { λ r. ⌜ r ≡ recordsToGate records ⌝ }
+{
+    if 16000 < records {
+        return 0;
+    }
+    records
+}
+
+fn answer_for_row(records: usize) -> Written
+    ensures { λ r. ⌜ says r ≡ rowOf records ⌝ }
+{
+    if 16000 < records {
+        return Written::Refused(Refusal(1));
+    }
+    Written::Done(records)
 }

@@ -1,0 +1,29 @@
+-- Gating over a row of evidence records.
+-- Assumes nothing.
+use Prim.Native.Nat.{ℕ}
+use mathlib.Core.Bool.{cond}
+use mathlib.Core.List.{List, [], _∷_, map}
+use lib.Dec.{leb}
+use Rattle.lent.specs.Outcome.{Outcome, done, need}
+use Rattle.evidence.specs.Position.{gated}
+use Rattle.evidence.specs.Reads.{isYes}
+use Rattle.evidence.specs.declared.MethylationEvidence.{MethylationEvidence}
+
+-- the columns as a row: a record for each position, as far as all three go
+unfoldable pub recordsOf : List ℕ → List ℕ → List ℕ → List MethylationEvidence
+recordsOf [] us cs = []
+recordsOf (y ∷ ys) [] cs = []
+recordsOf (y ∷ ys) (u ∷ us) [] = []
+recordsOf (y ∷ ys) (u ∷ us) (c ∷ cs) = record { informative = isYes y; unconverted = u; converted = c } ∷ recordsOf ys us cs
+
+-- each record gated
+unfoldable pub gatedRow : List MethylationEvidence → List MethylationEvidence
+gatedRow row = map gated row
+
+-- 1 above 16,000; done with how many records the row has
+unfoldable pub rowOf : ℕ → Outcome ℕ
+rowOf n = need (leb n 16000) 1 (done n)
+
+-- how many of the records are gated
+abbrev pub recordsToGate : ℕ → ℕ
+recordsToGate n = cond (leb n 16000) n 0
