@@ -102,6 +102,9 @@ module _ {A : Type 0} where
 
   -- ---- a list that is known from place n on
 
+  pub drop-here : (l : List A) (i : ℕ) (d : A) → i < length l → drop i l ≡ getD l i d ∷ drop (i + 1) l
+  drop-here l i d h = rw add-one (drop-cons l i d h)
+
   pub drop-step : (n : ℕ) (xs : List A) {y : A} {ys : List A} → drop n xs ≡ y ∷ ys → drop (suc n) xs ≡ ys
   drop-step zero xs e = ap (drop 1) e
   drop-step (suc n) [] e = cc

@@ -96,7 +96,7 @@ marks-go (x ∷ []) e = rw (among-every isMark (ascii ".?") x mark-bytes (and-tr
 marks-go (x ∷ y ∷ ys) e = let z : _≡_ {A = Bool} false true = and-true-r (among (ascii ".?") x) false e in cc
 
 glue-stays : (c : ℕ) (cs : List ℕ) → isMark c ≡ false → glue c cs ≡ c ∷ cs
-unfolding isMark
+unfolding isMark glue
 glue-stays c [] u = rw u
 glue-stays c (d ∷ ds) u = refl
 

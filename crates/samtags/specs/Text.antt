@@ -41,7 +41,7 @@ unfoldable pub endsInQuestion : List ℕ → Bool
 endsInQuestion header = eqb (lastOr 0 header) questionMark
 
 -- one byte more in front of a text without its marks; a mark goes where nothing is left behind it
-abbrev pub glue : ℕ → List ℕ → List ℕ
+unfoldable pub glue : ℕ → List ℕ → List ℕ
 unfolding isMark
 glue x [] = cond (isMark x) [] (x ∷ [])
 glue x (y ∷ ys) = x ∷ y ∷ ys

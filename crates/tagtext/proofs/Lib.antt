@@ -1,0 +1,5 @@
+pub mod FieldLaws
+pub mod SkipLaws
+pub mod HeaderLaws
+pub mod WalkLaws
+pub mod TextLaws
