@@ -5,7 +5,8 @@ use Prim.Native.Nat.{ℕ}
 use native.Mathlib.Omega.{arith}
 use mathlib.Core.Bool.{Bool, true, false, _&&_}
 use mathlib.Core.List.{List, [], _∷_}
-use Rattle.lent.specs.Outcome.{Outcome, refused, done, need, andThen, withFirst}
+use Rattle.lent.specs.Outcome.{Outcome, refused, done, need, onDone, andThen, withFirst}
+use Rattle.lent.specs.declared.Refusal.{Refusal}
 
 module _ {A : Type 0} where
   pub done-inj : {a b : A} → done a ≡ done b → a ≡ b
@@ -28,6 +29,10 @@ module _ {A B : Type 0} where
       → (x : A) × (rest : List A) × (xs ≡ x ∷ rest) × (f x rest ≡ done b)
   with-first-inv [] n f b e = let z : _≡_ {A = ℕ} 0 1 = cc in absurd (omega arith)
   with-first-inv (x ∷ xs) n f b e = (x, xs, refl, e)
+
+  pub on-done-refused : (f : A → B) (o : Outcome A) (r : Refusal) → onDone f o ≡ refused r → o ≡ refused r
+  on-done-refused f (refused q) r e = let s : q ≡ r = cc in rw s
+  on-done-refused f (done a) r e = let z : _≡_ {A = ℕ} 0 1 = cc in absurd (omega arith)
 
   -- a test on the way to something that is done
   pub need-out : (s : Bool) (n : ℕ) (a : A) (f : A → Outcome B) → andThen (need s n (done a)) f ≡ need s n (f a)
