@@ -7,7 +7,7 @@ use Prim.Native.Nat.{ℕ, zero, suc, _+_, _-_, _≤_, _<_}
 use native.Mathlib.Numerals.{add-one}
 use native.Mathlib.Omega.{arith}
 use lib.ListN.{length, getD, take, drop, set, length-append, length-drop, drop-of-length-le}
-use lib.Seq.{take-at, drop-at, drop-drop, drop-cons, take-all, set-at, append-snoc, getD-append-add, getD-drop}
+use lib.Seq.{sets, sets-eq, take-at, drop-at, drop-drop, drop-cons, take-all, set-at, append-snoc, getD-append-add, getD-drop}
 use Rattle.lent.specs.Filled.{over, leaves}
 use Rattle.lent.specs.Outcome.{refused, done}
 use Rattle.lent.specs.declared.Refusal.{Refusal}
@@ -48,6 +48,11 @@ module _ {A : Type 0} where
   over-past l out i d h =
       let e : length l + (i - length l) ≡ i = omega arith in
       rw e at (getD-append-add l (drop (length l) out) (i - length l) d ∙ getD-drop (length l) out (i - length l) d)
+
+  -- stores one by one from the start on, where they fit
+  pub over-stored : (l out : List A) → length l ≤ length out → sets out 0 l ≡ over l out
+  unfolding over
+  over-stored l out h = let z : 0 + length l ≡ length l = omega arith in sets-eq l out 0 (omega arith) ∙ rw z
 
   -- a list as long as the row is all that the row holds
   pub over-all : (l out : List A) → length l ≡ length out → over l out ≡ l

@@ -1,1 +1,3 @@
 pub mod ScanLaws
+pub mod CheckLaws
+pub mod AnswerLaws

@@ -11,6 +11,7 @@ use Rattle.lent.specs.Outcome.{Outcome, refused, done, onDone}
 use Rattle.samtags.specs.Text.{upTo}
 use Rattle.samtags.specs.Spots.{Spot, Group, Call, callsIn, listing}
 use Rattle.samtags.specs.Reading.{Row, rowsOf, valuesIn, rowsFrom, isAbove}
+use Rattle.reading.specs.Calls.{countsOf}
 use Rattle.reading.specs.declared.scan.Cursor.{Cursor}
 use Rattle.reading.specs.declared.scan.Scan.{Scan}
 use Rattle.reading.specs.declared.scan.Scan.the-variants.{To, Refused}
@@ -86,3 +87,8 @@ abbrev pub TagScanned : List ℕ → Outcome (List Group) → Columns → Scan �
 TagScanned ml o before (Refused r) after = o ≡ refused r
 TagScanned ml o before (To d) after =
     (onDone (finished 0 before 0 0) o ≡ done (record { rows = after; groups = d .group; calls = d .calls })) × (d .above ≡ aboveIn ml)
+
+-- o is what the answer says of the whole tag, where no column was lent
+abbrev pub TagMeasured : List ℕ → Outcome (List Group) → Scan → Type 0
+TagMeasured ml o (Refused r) = o ≡ refused r
+TagMeasured ml o (To d) = (onDone (λ gs. countsOf (map listing gs)) o ≡ done (d .group, d .calls)) × (d .above ≡ aboveIn ml)

@@ -17,9 +17,9 @@ ghost use Rattle.reading.specs.Scanning.{columns, aboveIn, EntriesScanne
 use lent::Refusal;
 use tagtext::fields;
 use tagtext::headers;
-use tagtext::places::find_entry;
 use tagtext::places::Entry;
 use tagtext::places::Place;
+use tagtext::places::find_entry;
 
 // Where a walk stands: the byte of the text and the value of ML that come next, how many groups and calls were passed, and how many of the
 // values that were passed are above.
@@ -58,7 +58,15 @@ fn put(column: &mut [u32], n: usize, v: u32)
 }
 
 // Stores a call's row as the n-th of the list.
-fn list_call(groups: &mut [u32], places: &mut [u32], starts: &mut [u32], n: usize, group: usize, place: Place, start: usize)
+fn list_call(
+    groups: &mut [u32],
+    places: &mut [u32],
+    starts: &mut [u32],
+    n: usize,
+    group: usize,
+    place: Place,
+    start: usize,
+)
     requires { ⌜ (group ≤ 65536) × (place .0 ≤ 65536) × (start ≤ 65536) ⌝ }
     ensures { λ _. ⌜ now (groups .exit) ≡ set (now (groups .entry)) n group ⌝ }
     ensures { λ _. ⌜ now (places .exit) ≡ set (now (places .entry)) n (place .0) ⌝ }
@@ -100,17 +108,13 @@ fn scan_entries(
     requires { ⌜ (length (now seq) ≤ 16000) × (length (now text) ≤ 65536) × (length (now ml) ≤ 65536) ⌝ }
     requires { ⌜ start .at + length (upTo semicolon (drop (start .at) (now text))) < length (now text) ⌝ }
     requires { ⌜ length (fieldOf (drop (start .at) (now text))) ≡ 0 ⌝ }
-    requires {
-        ⌜ (start .used ≤ length (now ml)) × (start .group ≤ start .at) × (start .calls ≤ start .at) × (start .above ≡ aboveIn (take (start .used) (now ml))) ⌝
-    }
-    ensures {
-        λ r.
-            ⌜ EntriesScanned (now (text .entry)) (now (ml .entry)) start
-                (readSpots values nowhere (ledBy comma (upTo semicolon (drop (start .at) (now (text .entry))))) (tracked base (now (seq .entry))) (drop (start .used) (now (ml .entry))))
-                (columns (now (groups .entry)) (now (places .entry)) (now (starts .entry)))
-                r
-                (columns (now (groups .exit)) (now (places .exit)) (now (starts .exit))) ⌝
-    }
+    requires { ⌜ (start .used ≤ length (now ml)) × (start .group ≤ start .at) × (start .calls ≤ start .at) × (start .above ≡ aboveIn (take (start .used) (now ml))) ⌝ }
+    ensures { λ r.
+        ⌜ EntriesScanned (now (text .entry)) (now (ml .entry)) start
+        (readSpots values nowhere (ledBy comma (upTo semicolon (drop (start .at) (now (text .entry))))) (tracked base (now (seq .entry))) (drop (start .used) (now (ml .entry))))
+        (columns (now (groups .entry)) (now (places .entry)) (now (starts .entry)))
+        r
+        (columns (now (groups .exit)) (now (places .exit)) (now (starts .exit))) ⌝ }
 {
     let mut at = start.at;
     let mut used = start.used;
@@ -155,17 +159,13 @@ fn scan_group(
 ) -> Scan
     requires { ⌜ (length (now seq) ≤ 16000) × (length (now text) ≤ 65536) × (length (now ml) ≤ 65536) ⌝ }
     requires { ⌜ start .at + length (upTo semicolon (drop (start .at) (now text))) < length (now text) ⌝ }
-    requires {
-        ⌜ (start .used ≤ length (now ml)) × (start .group ≤ start .at) × (start .calls ≤ start .at) × (start .above ≡ aboveIn (take (start .used) (now ml))) ⌝
-    }
-    ensures {
-        λ r.
-            ⌜ GroupScanned (now (text .entry)) (now (ml .entry)) start
-                (readGroup «has_ml» nowhere (now (seq .entry)) (upTo semicolon (drop (start .at) (now (text .entry)))) (drop (start .used) (now (ml .entry))))
-                (columns (now (groups .entry)) (now (places .entry)) (now (starts .entry)))
-                r
-                (columns (now (groups .exit)) (now (places .exit)) (now (starts .exit))) ⌝
-    }
+    requires { ⌜ (start .used ≤ length (now ml)) × (start .group ≤ start .at) × (start .calls ≤ start .at) × (start .above ≡ aboveIn (take (start .used) (now ml))) ⌝ }
+    ensures { λ r.
+        ⌜ GroupScanned (now (text .entry)) (now (ml .entry)) start
+        (readGroup «has_ml» nowhere (now (seq .entry)) (upTo semicolon (drop (start .at) (now (text .entry)))) (drop (start .used) (now (ml .entry))))
+        (columns (now (groups .entry)) (now (places .entry)) (now (starts .entry)))
+        r
+        (columns (now (groups .exit)) (now (places .exit)) (now (starts .exit))) ⌝ }
 {
     let at = start.at;
     let header = fields::next_field(text, at);
@@ -205,14 +205,12 @@ pub fn scan_groups(
     starts: &mut [u32],
 ) -> Scan
     requires { ⌜ (length (now seq) ≤ 16000) × (length (now text) ≤ 65536) × (length (now ml) ≤ 65536) × (lastOr 0 (now text) ≡ semicolon) ⌝ }
-    ensures {
-        λ r.
-            ⌜ TagScanned (now (ml .entry))
-                (readGroups «has_ml» nowhere (now (seq .entry)) (closedBy semicolon (now (text .entry))) (now (ml .entry)))
-                (columns (now (groups .entry)) (now (places .entry)) (now (starts .entry)))
-                r
-                (columns (now (groups .exit)) (now (places .exit)) (now (starts .exit))) ⌝
-    }
+    ensures { λ r.
+        ⌜ TagScanned (now (ml .entry))
+        (readGroups «has_ml» nowhere (now (seq .entry)) (closedBy semicolon (now (text .entry))) (now (ml .entry)))
+        (columns (now (groups .entry)) (now (places .entry)) (now (starts .entry)))
+        r
+        (columns (now (groups .exit)) (now (places .exit)) (now (starts .exit))) ⌝ }
 {
     let mut c = Cursor {
         at: 0,

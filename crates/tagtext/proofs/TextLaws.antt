@@ -107,10 +107,10 @@ rest-of [] i b n p rest e = let z : _≡_ {A = ℕ} 0 1 = cc (drop-nil {A = ℕ}
 rest-of (x ∷ xs) i b zero p rest e =
     by-test (holds b x)
     (λ h.
-      let q : _≡_ {A = List ℕ} (i ∷ placesFrom (holds b) (suc i) xs) (p ∷ rest) = rw h at e in
-      let at : i ≡ p = cc in
-      let more : placesFrom (holds b) (suc i) xs ≡ rest = cc in
-      (0, omega arith, omega arith, sym more ∙ ap (λ (m : ℕ). placesFrom (holds b) (suc m) xs) at))
+    let q : _≡_ {A = List ℕ} (i ∷ placesFrom (holds b) (suc i) xs) (p ∷ rest) = rw h at e in
+    let at : i ≡ p = cc in
+    let more : placesFrom (holds b) (suc i) xs ≡ rest = cc in
+    (0, omega arith, omega arith, sym more ∙ ap (λ (m : ℕ). placesFrom (holds b) (suc m) xs) at))
     (λ h. let r = rest-of xs (suc i) b zero p rest (rw h at e) in (suc (r .0), omega arith, omega arith, r .3))
 rest-of (x ∷ xs) i b (suc m) p rest e =
     by-test (holds b x)
@@ -166,7 +166,7 @@ module _ (k : ℕ) (denied : ℕ → Bool) (t : List ℕ) (at : ℕ) (l : at < l
   pub turn-on : (p : ℕ) (rest : List ℕ) → readEntry k denied f places (length ml - used) ≡ done (p, rest)
       → readSpots k denied (ledBy 44 (upTo 59 (drop at t))) places (drop used ml)
       ≡ andThen (readSpots k denied (ledBy 44 (upTo 59 (drop (at + 1 + length f) t))) rest (drop (used + k) ml)) (λ r.
-        done (map bare (take (value f) places) ++ call p (take k (drop used ml)) ∷ r .0, r .1))
+      done (map bare (take (value f) places) ++ call p (take k (drop used ml)) ∷ r .0, r .1))
   unfolding readSpots
   turn-on p rest h = rw (led-comma t at l comma, ← q, length-drop used ml, h, led-from t (at + 1) (length f) (ap length (sym q)), drop-drop k used ml)
 
@@ -190,7 +190,7 @@ module _ (ml? : Bool) (named : ℕ → Bool) (seq t : List ℕ) (at : ℕ) (h : 
 
   pub group-on : 2 ≤ length h → readGroup ml? named seq (upTo 59 (drop at t)) ml
       ≡ andThen (readSpots (valuesIf ml? h) (deniedTo h named) (ledBy 44 (upTo 59 (drop (at + length h) t))) (tracked (baseOf h) seq) ml) (λ r.
-        done (record { header = h; spots = r .0 }, r .1))
+      done (record { header = h; spots = r .0 }, r .1))
   unfolding readGroup
   group-on s = rw (← q, le-leb 2 (length h) s, led-from t at (length h) (ap length (sym q)))
 
@@ -198,8 +198,8 @@ module _ (ml? : Bool) (named : ℕ → Bool) (seq t : List ℕ) (at : ℕ) (h : 
 pub groups-at : (ml? : Bool) (named : ℕ → Bool) (seq t : List ℕ) (at : ℕ) → at < length t → lastOr 0 t ≡ 59 → (ml : List ℕ)
     → readGroups ml? named seq (closedBy 59 (drop at t)) ml
     ≡ andThen (readGroup ml? named seq (upTo 59 (drop at t)) ml) (λ r.
-      andThen (readGroups ml? named seq (closedBy 59 (drop (at + length (upTo 59 (drop at t)) + 1) t)) (r .1)) (λ rest.
-      done (r .0 ∷ rest)))
+    andThen (readGroups ml? named seq (closedBy 59 (drop (at + length (upTo 59 (drop at t)) + 1) t)) (r .1)) (λ rest.
+    done (r .0 ∷ rest)))
 unfolding readGroups
 groups-at ml? named seq t at l last ml = rw (closed-at t at l last)
 

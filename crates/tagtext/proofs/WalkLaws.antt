@@ -59,10 +59,10 @@ bounded-drop most n ps h =
     by-test (leb n most)
     (λ e. let small : n ≤ most = leb-true n most e in let q : min most n ≡ n = omega arith in rw q)
     (λ e.
-      let large : most < n = leb-false n most e in
-      let a : length ps ≤ n = omega arith in
-      let c : length ps ≤ min most n = omega arith in
-      drop-of-length-le ps c ∙ sym (drop-of-length-le ps a))
+    let large : most < n = leb-false n most e in
+    let a : length ps ≤ n = omega arith in
+    let c : length ps ≤ min most n = omega arith in
+    drop-of-length-le ps c ∙ sym (drop-of-length-le ps a))
 
 -- ---- an entry, by what the skip reader and the walk answer
 

@@ -74,9 +74,7 @@ pub fn put(out: &mut [u8], at: usize, b: u8)
 // Writes n in decimal from a place on, as far as the room reaches, and gives the place after it.
 pub fn put_decimal(out: &mut [u8], at: usize, n: usize) -> usize
     requires { ⌜ at ≤ 4294967296 ⌝ }
-    ensures {
-        λ r. ⌜ (r ≡ at + length (digits n)) × (now (out .exit) ≡ sets (now (out .entry)) at (digits n)) ⌝
-    }
+    ensures { λ r. ⌜ (r ≡ at + length (digits n)) × (now (out .exit) ≡ sets (now (out .entry)) at (digits n)) ⌝ }
 {
     if n < 10 {
         put(out, at, b'0' + n as u8);

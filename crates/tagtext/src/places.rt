@@ -5,9 +5,9 @@ ghost use lib.ListN.{length, drop};
 ghost use Rattle.samtags.specs.Spots.{holds};
 ghost use Rattle.tagtext.specs.Answers.{foundSays, entrySays, entryRefusal};
 ghost use Rattle.tagtext.specs.Walk.{firstOf, trackedFrom, entryAt};
-use lent::Refusal;
 use crate::numbers;
 use crate::numbers::Skip;
+use lent::Refusal;
 
 // How many of the group's bases were passed.
 pub struct Ordinal(pub usize);

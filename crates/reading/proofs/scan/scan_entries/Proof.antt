@@ -47,7 +47,7 @@ went : (k : tie.Else2 Inv-loop μ-loop) →
     let h = k .before .before .before .before .before .before .before .before .loop in
     let p = k .before .before .entry .given .0 .0 .0 in
     (readEntry (a .values) nowhere (k .before .before .before .before .before .next-field .result .now) (trackedFrom (a .base) (h .from .0) (a .seq .now)) (length (a .ml .now) - h .used)
-      ≡ done (p, trackedFrom (a .base) (p + 1) (a .seq .now)))
+    ≡ done (p, trackedFrom (a .base) (p + 1) (a .seq .now)))
     × (p < length (a .seq .now))
 went k =
     let a = k .before .before .before .before .before .before .before .before .before .before .before .before .before .before .before .args in
@@ -117,7 +117,7 @@ returns c =
     entry-refused (a .values) nowhere (f .result .now) places left (g .0 .0) (sym (ap entrySays (g .1)) ∙ c .before .before .before .find-entry .ensures) in
     on-done-refused _ _ _ (h .inv .7
     ∙ ap (onDone (listedSpots (a .start .group) (columns (h .groups) (h .places) (h .starts)) (h .calls) (h .used)))
-      (turn-refused (a .values) nowhere (a .text .now) (h .at) low (c .before .before .before .before .before .if1 .taken) (f .result .now) (f .ensures) places (a .ml .now) (h .used) (g .0 .0) six-or-seven)
+    (turn-refused (a .values) nowhere (a .text .now) (h .at) low (c .before .before .before .before .before .if1 .taken) (f .result .now) (f .ensures) places (a .ml .now) (h .used) (g .0 .0) six-or-seven)
     ∙ ap refused (sym (c .refusal .ensures ∙ ap entryRefusal (g .1))))
 
 sub-if2 : tie.Need-sub-if2 Inv-loop μ-loop
@@ -144,8 +144,8 @@ returns-2 c =
     let low : h .at < length (a .text .now) = omega arith in
     on-done-refused _ _ _ (h .inv .7
     ∙ ap (onDone (listedSpots (a .start .group) (columns (h .groups) (h .places) (h .starts)) (h .calls) (h .used)))
-      (turn-refused (a .values) nowhere (a .text .now) (h .at) low (c .before .before .before .before .before .before .if1 .taken) (f .result .now) (f .ensures) places (a .ml .now) (h .used) _
-      (entry-eight (a .values) nowhere (f .result .now) places left (g .0 .0 .0) (sym (ap entrySays (g .1)) ∙ c .before .before .before .before .find-entry .ensures) (c .if2 .taken))))
+    (turn-refused (a .values) nowhere (a .text .now) (h .at) low (c .before .before .before .before .before .before .if1 .taken) (f .result .now) (f .ensures) places (a .ml .now) (h .used) _
+    (entry-eight (a .values) nowhere (f .result .now) places left (g .0 .0 .0) (sym (ap entrySays (g .1)) ∙ c .before .before .before .before .find-entry .ensures) (c .if2 .taken))))
 
 list-call-requires : tie.Need-list-call-requires Inv-loop μ-loop
 list-call-requires c κs = omega (arith, went (c .before .before .before) .1)
@@ -190,18 +190,24 @@ loop-again c =
     let low : h .at < length t = omega (arith, b) in
     let comma = k .before .before .before .before .before .before .if1 .taken in
     let l = c .before .before .before .before .before .before .before .before .list-call in
-    let rest = readSpots (a .values) nowhere (ledBy 44 (upTo 59 (drop (h .at + 1 + length (f .result .now)) t))) (trackedFrom (a .base) (p + 1) (a .seq .now)) (drop (h .used + a .values) (a .ml .now)) in
-    (omega (arith, h .inv .0, turn-rest (a .values) nowhere t (h .at) low comma (f .result .now) (f .ensures) places (a .ml .now) (h .used)),
-    turn-field (a .values) nowhere t (h .at) low comma (f .result .now) (f .ensures) places (a .ml .now) (h .used),
-    omega (arith, w .1), b .0, omega (arith, b), omega (arith, b),
-    omega (arith, h .inv .6, c .before .count-above .ensures, above-used (a .ml .now) (h .used) (a .values)),
-    h .inv .7
-    ∙ ap (onDone (listedSpots (a .start .group) (columns (h .groups) (h .places) (h .starts)) (h .calls) (h .used)))
-      (turn-on (a .values) nowhere t (h .at) low comma (f .result .now) (f .ensures) places (a .ml .now) (h .used) p (trackedFrom (a .base) (p + 1) (a .seq .now)) (w .0))
-    ∙ list-one (a .start .group) (columns (h .groups) (h .places) (h .starts)) (h .calls) (h .used) (take (value (f .result .now)) places) p (take (a .values) (drop (h .used) (a .ml .now))) (a .values)
-      (length-take-le (a .values) (drop (h .used) (a .ml .now)) (omega (arith, length-drop (h .used) (a .ml .now)))) rest
-    ∙ (λ j. onDone (listedSpots (a .start .group) (columns (sym (l .ensures .0) j) (sym (l .ensures .1 .0) j) (sym (l .ensures .1 .1) j)) (h .calls + 1) (h .used + a .values)) rest),
-    l .kept .0 ∙ h .inv .8, l .kept .1 .0 ∙ h .inv .9, l .kept .1 .1 .0 ∙ h .inv .10)
+    let rest = readSpots (a .values) nowhere (ledBy 44 (upTo 59 (drop (h .at + 1 + length (f .result .now)) t))) (trackedFrom (a .base) (p + 1) (a .seq .now)) (drop (h .used + a .values) (a .ml .now)) in (
+      omega (arith, h .inv .0, turn-rest (a .values) nowhere t (h .at) low comma (f .result .now) (f .ensures) places (a .ml .now) (h .used)),
+      turn-field (a .values) nowhere t (h .at) low comma (f .result .now) (f .ensures) places (a .ml .now) (h .used),
+      omega (arith, w .1),
+      b .0,
+      omega (arith, b),
+      omega (arith, b),
+      omega (arith, h .inv .6, c .before .count-above .ensures, above-used (a .ml .now) (h .used) (a .values)),
+      h .inv .7
+          ∙ ap (onDone (listedSpots (a .start .group) (columns (h .groups) (h .places) (h .starts)) (h .calls) (h .used)))
+          (turn-on (a .values) nowhere t (h .at) low comma (f .result .now) (f .ensures) places (a .ml .now) (h .used) p (trackedFrom (a .base) (p + 1) (a .seq .now)) (w .0))
+          ∙ list-one (a .start .group) (columns (h .groups) (h .places) (h .starts)) (h .calls) (h .used) (take (value (f .result .now)) places) p (take (a .values) (drop (h .used) (a .ml .now))) (a .values)
+          (length-take-le (a .values) (drop (h .used) (a .ml .now)) (omega (arith, length-drop (h .used) (a .ml .now)))) rest
+          ∙ (λ j. onDone (listedSpots (a .start .group) (columns (sym (l .ensures .0) j) (sym (l .ensures .1 .0) j) (sym (l .ensures .1 .1) j)) (h .calls + 1) (h .used + a .values)) rest),
+      l .kept .0 ∙ h .inv .8,
+      l .kept .1 .0 ∙ h .inv .9,
+      l .kept .1 .1 .0 ∙ h .inv .10,
+    )
 
 same-length-7 : tie.Need-same-length-7 Inv-loop μ-loop
 same-length-7 c = omega arith
@@ -220,12 +226,17 @@ returns-3 c =
     let t = a .text .now in
     let places = trackedFrom (a .base) (h .from .0) (a .seq .now) in
     let low : h .at < length t = omega arith in
-    let semi = ends-semicolon t (h .at) low (h .inv .1) (c .if1 .left) in
-    (omega (arith, rest-semicolon t (h .at) low semi), h .inv .3, refl, h .inv .4, h .inv .6,
-    h .inv .7
-    ∙ ap (onDone (listedSpots (a .start .group) (columns (h .groups) (h .places) (h .starts)) (h .calls) (h .used)))
-      (turn-end (a .values) nowhere t (h .at) low semi places (drop (h .used) (a .ml .now)))
-    ∙ list-end (a .start .group) (columns (h .groups) (h .places) (h .starts)) (h .calls) (h .used) places (drop (h .used) (a .ml .now)))
+    let semi = ends-semicolon t (h .at) low (h .inv .1) (c .if1 .left) in (
+      omega (arith, rest-semicolon t (h .at) low semi),
+      h .inv .3,
+      refl,
+      h .inv .4,
+      h .inv .6,
+      h .inv .7
+          ∙ ap (onDone (listedSpots (a .start .group) (columns (h .groups) (h .places) (h .starts)) (h .calls) (h .used)))
+          (turn-end (a .values) nowhere t (h .at) low semi places (drop (h .used) (a .ml .now)))
+          ∙ list-end (a .start .group) (columns (h .groups) (h .places) (h .starts)) (h .calls) (h .used) places (drop (h .used) (a .ml .now)),
+    )
 
 pub scan-entries-spec : {M : Type 1} → statement M
 scan-entries-spec =

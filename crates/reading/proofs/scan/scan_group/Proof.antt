@@ -127,11 +127,16 @@ returns-3 c =
     let a = w .before .before .before .before .before .before .before .before .before .before .before .before .before .before .before .args in
     let f = w .before .before .before .before .before .before .before .before .next-field in
     let g = c .before .before .scanned .given in
-    let x = entries w _ (g .1) in
-    (omega (arith, x .0, ends-together (w .before .before .before .before .before .before .before .before)), x .1, x .2, omega (arith, x .3), x .4,
-    group-listed (a .has-ml) (a .seq .now) (a .text .now) (a .start .at) (f .result .now) (f .ensures) (drop (a .start .used) (a .ml .now)) (w .before .before .before .before .before .before .before .if1 .left)
-    (w .before .before .before .before .before .before .values-if .result) (w .before .before .before .before .before .base-of .result) (w .before .before .before .before .before .before .values-if .ensures) (w .before .before .before .before .before .base-of .ensures) (a .start .group + 1)
-    (columns (a .groups .now) (a .places .now) (a .starts .now)) (a .start .calls) (a .start .used) ∙ x .5)
+    let x = entries w _ (g .1) in (
+      omega (arith, x .0, ends-together (w .before .before .before .before .before .before .before .before)),
+      x .1,
+      x .2,
+      omega (arith, x .3),
+      x .4,
+      group-listed (a .has-ml) (a .seq .now) (a .text .now) (a .start .at) (f .result .now) (f .ensures) (drop (a .start .used) (a .ml .now)) (w .before .before .before .before .before .before .before .if1 .left)
+          (w .before .before .before .before .before .before .values-if .result) (w .before .before .before .before .before .base-of .result) (w .before .before .before .before .before .before .values-if .ensures) (w .before .before .before .before .before .base-of .ensures) (a .start .group + 1)
+          (columns (a .groups .now) (a .places .now) (a .starts .now)) (a .start .calls) (a .start .used) ∙ x .5,
+    )
 
 pub scan-group-spec : {M : Type 1} → statement M
 scan-group-spec =

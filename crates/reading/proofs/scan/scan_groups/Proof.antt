@@ -87,7 +87,7 @@ returns c =
     (columns (a .groups .now) (a .places .now) (a .starts .now)) x (columns (l .0) (l .1 .0) (l .1 .1 .0))) (sym (g .1))
     (on-done-refused _ _ _ (h .inv .5
     ∙ ap (onDone (finished (h .c .group) (columns (h .groups) (h .places) (h .starts)) (h .c .calls) (h .c .used)))
-      (groups-refused (a .has-ml) (a .seq .now) (a .text .now) (h .c .at) (inside (w .before .before .before .before)) (w .before .before .before .before .before .before .before .before .before .before .before .before .before .pre .3) (drop (h .c .used) (a .ml .now)) (g .0 .0) (group w _ (g .1)))))
+    (groups-refused (a .has-ml) (a .seq .now) (a .text .now) (h .c .at) (inside (w .before .before .before .before)) (w .before .before .before .before .before .before .before .before .before .before .before .before .before .pre .3) (drop (h .c .used) (a .ml .now)) (g .0 .0) (group w _ (g .1)))))
 
 loop-less : tie.Need-loop-less Inv-loop μ-loop
 loop-less c =
@@ -102,11 +102,18 @@ loop-again c =
     let h = w .before .before .before .before .before .before .loop in
     let x = group w _ (c .before .scanned .given .1) in
     let far = ahead (a .text .now) (h .c .at) (inside (w .before .before .before .before)) (w .before .before .before .before .before .before .before .before .before .before .before .before .before .pre .3) in
-    let k = w .scan-group .kept .1 .1 .1 .1 .1 in
-    (omega (arith, x .0, far), x .1, omega (arith, x .0, x .2, h .inv .2), x .3, x .4,
-    h .inv .5 ∙ groups-turn (a .has-ml) (a .seq .now) (a .text .now) (h .c .at) (inside (w .before .before .before .before)) (w .before .before .before .before .before .before .before .before .before .before .before .before .before .pre .3) (drop (h .c .used) (a .ml .now))
-    (h .c .group) (columns (h .groups) (h .places) (h .starts)) (h .c .calls) (h .c .used) _ _ _ _ (x .0) (x .2) (x .5),
-    k .0 ∙ h .inv .6, k .1 .0 ∙ h .inv .7, k .1 .1 .0 ∙ h .inv .8)
+    let k = w .scan-group .kept .1 .1 .1 .1 .1 in (
+      omega (arith, x .0, far),
+      x .1,
+      omega (arith, x .0, x .2, h .inv .2),
+      x .3,
+      x .4,
+      h .inv .5 ∙ groups-turn (a .has-ml) (a .seq .now) (a .text .now) (h .c .at) (inside (w .before .before .before .before)) (w .before .before .before .before .before .before .before .before .before .before .before .before .before .pre .3) (drop (h .c .used) (a .ml .now))
+          (h .c .group) (columns (h .groups) (h .places) (h .starts)) (h .c .calls) (h .c .used) _ _ _ _ (x .0) (x .2) (x .5),
+      k .0 ∙ h .inv .6,
+      k .1 .0 ∙ h .inv .7,
+      k .1 .1 .0 ∙ h .inv .8,
+    )
 
 same-length-4 : tie.Need-same-length-4 Inv-loop μ-loop
 same-length-4 c = omega arith
@@ -123,7 +130,7 @@ returns-2 c =
     let h = c .before .before .before .before .loop in
     on-done-refused _ _ _ (h .inv .5
     ∙ ap (onDone (finished (h .c .group) (columns (h .groups) (h .places) (h .starts)) (h .c .calls) (h .c .used)))
-      (groups-over (a .has-ml) nowhere (a .seq .now) (a .text .now) (h .c .at) (omega arith) (a .ml .now) (h .c .used) (omega arith)))
+    (groups-over (a .has-ml) nowhere (a .seq .now) (a .text .now) (h .c .at) (omega arith) (a .ml .now) (h .c .used) (omega arith)))
 
 same-length-7 : tie.Need-same-length-7 Inv-loop μ-loop
 same-length-7 c = omega arith
@@ -138,12 +145,13 @@ returns-3 : tie.Need-returns-3 Inv-loop μ-loop
 returns-3 c =
     let a = c .before .before .before .before .before .before .before .before .before .before .before .args in
     let h = c .before .before .before .before .loop in
-    let all : length (a .ml .now) ≤ h .c .used = omega arith in
-    (h .inv .5
-    ∙ ap (onDone (finished (h .c .group) (columns (h .groups) (h .places) (h .starts)) (h .c .calls) (h .c .used)))
-      (groups-done (a .has-ml) nowhere (a .seq .now) (a .text .now) (h .c .at) (omega arith) (a .ml .now) (h .c .used) all)
-    ∙ finish-none (h .c .group) (columns (h .groups) (h .places) (h .starts)) (h .c .calls) (h .c .used),
-    h .inv .4 ∙ ap aboveIn (take-all (h .c .used) (a .ml .now) all))
+    let all : length (a .ml .now) ≤ h .c .used = omega arith in (
+      h .inv .5
+          ∙ ap (onDone (finished (h .c .group) (columns (h .groups) (h .places) (h .starts)) (h .c .calls) (h .c .used)))
+          (groups-done (a .has-ml) nowhere (a .seq .now) (a .text .now) (h .c .at) (omega arith) (a .ml .now) (h .c .used) all)
+          ∙ finish-none (h .c .group) (columns (h .groups) (h .places) (h .starts)) (h .c .calls) (h .c .used),
+      h .inv .4 ∙ ap aboveIn (take-all (h .c .used) (a .ml .now) all),
+    )
 
 pub scan-groups-spec : {M : Type 1} → statement M
 scan-groups-spec =

@@ -83,7 +83,7 @@ put-decimal-returns : (t : ℕ) → put-decimal-lts.Need-returns (
   put-decimal-below t,
   put-decimal.Post,
 ) (put-decimal-at t) put-decimal.Post
-put-decimal-returns t c = 
+put-decimal-returns t c =
     let a = c .before .before .before .before .before .before .args in
     let small : a .n < 10 = omega arith in
     (omega (arith, one (a .n) small), c .before .before .put .ensures ∙ ap (sets (a .out .now) (a .at)) (sym (digits-small (a .n) small)))
@@ -142,15 +142,16 @@ put-decimal-returns-2 : (t : ℕ) → put-decimal-lts.Need-returns-2 (
   put-decimal-below t,
   put-decimal.Post,
 ) (put-decimal-at t) put-decimal.Post
-put-decimal-returns-2 t c = 
+put-decimal-returns-2 t c =
     let a = c .before .before .before .before .before .before .before .before .before .before .args in
     let first = c .before .before .before .before .before .before .put-decimal in
-    let big : 10 ≤ a .n = omega arith in
-    (omega (arith, longer (a .n) big, first .ensures),
-    c .before .before .put2 .ensures
-    ∙ ap (λ (m : List ℕ). set m (first .result) (48 + a .n % 10)) (first .ensures .1)
-    ∙ sets-snoc (a .out .now) (a .at) (digits (a .n / 10)) (48 + a .n % 10) (first .result) (first .ensures .0)
-    ∙ ap (sets (a .out .now) (a .at)) (sym (digits-more (a .n) big)))
+    let big : 10 ≤ a .n = omega arith in (
+      omega (arith, longer (a .n) big, first .ensures),
+      c .before .before .put2 .ensures
+          ∙ ap (λ (m : List ℕ). set m (first .result) (48 + a .n % 10)) (first .ensures .1)
+          ∙ sets-snoc (a .out .now) (a .at) (digits (a .n / 10)) (48 + a .n % 10) (first .result) (first .ensures .0)
+          ∙ ap (sets (a .out .now) (a .at)) (sym (digits-more (a .n) big)),
+    )
 
 pub +put-decimal-spec : {M : Type 1} → statement M
 +put-decimal-spec = close μ-put-decimal λ t. put-decimal-lts.spec (

@@ -52,10 +52,12 @@ loop-again : tie.Need-loop-again Inv-loop μ-loop
 loop-again c =
     let h = c .before .before .before .before .before .loop in
     let l = c .before .before .before .before .before .before .before .before .args .field .now in
-    let most = c .before .before .before .before .before .before .before .before .args .most in
-    (omega arith, omega arith,
-    h .inv .2 ∙ rw (value-on l (h .i) (h .n) (omega arith)) (bounded most (10 * h .n + (getD l (h .i) 0 - 48)) (c .with-digit .result) (drop (h .i + 1) l) (omega arith)),
-    h .inv .3 ∙ every-on isDigit l (h .i) 0 (omega arith) (digit-is _ (omega arith) (omega arith)))
+    let most = c .before .before .before .before .before .before .before .before .args .most in (
+      omega arith,
+      omega arith,
+      h .inv .2 ∙ rw (value-on l (h .i) (h .n) (omega arith)) (bounded most (10 * h .n + (getD l (h .i) 0 - 48)) (c .with-digit .result) (drop (h .i + 1) l) (omega arith)),
+      h .inv .3 ∙ every-on isDigit l (h .i) 0 (omega arith) (digit-is _ (omega arith) (omega arith)),
+    )
 
 returns-4 : tie.Need-returns-4 Inv-loop μ-loop
 returns-4 c =

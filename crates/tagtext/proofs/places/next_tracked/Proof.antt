@@ -53,8 +53,12 @@ loop-again c =
     let i = h .pos .0 in
     let n = a .skip .0 - h .ordinal .0 in
     ⊎-elim
-    (λ w. rw (w .5) (omega arith, omega (arith, w .3 .left), omega arith,
-      h .inv .3 ∙ found-on (a .base) (a .seq .now) i n (a .skip .0 - (h .ordinal .0 + 1)) (omega arith) (sym (c .before .counts .ensures) ∙ w .0 .taken) (omega (arith, w .3 .left))))
+    (λ w. rw (w .5) (
+      omega arith,
+      omega (arith, w .3 .left),
+      omega arith,
+      h .inv .3 ∙ found-on (a .base) (a .seq .now) i n (a .skip .0 - (h .ordinal .0 + 1)) (omega arith) (sym (c .before .counts .ensures) ∙ w .0 .taken) (omega (arith, w .3 .left)),
+    ))
     (λ w. rw (w .1) (omega arith, omega arith, omega arith, h .inv .3 ∙ found-miss (a .base) (a .seq .now) i n (omega arith) (sym (c .before .counts .ensures) ∙ w .0 .left)))
     (c .if2 .came)
 
