@@ -1,3 +1,5 @@
 pub mod ScanLaws
 pub mod CheckLaws
 pub mod AnswerLaws
+pub mod Unique
+pub mod Rising

@@ -116,7 +116,7 @@ every-bare : (t : Spot → Bool) → ((p : ℕ) → t (bare p) ≡ true) → (ps
 every-bare t f [] ss = refl
 every-bare t f (p ∷ ps) ss = rw (f p) (every-bare t f ps ss)
 
-spots-at : {k : ℕ} {fs : List (List ℕ)} {places ml : List ℕ} {ss : List Spot} {left : List ℕ} → SpotsRead k fs places ml ss left → map placeOf ss ≡ places
+pub spots-at : {k : ℕ} {fs : List (List ℕ)} {places ml : List ℕ} {ss : List Spot} {left : List ℕ} → SpotsRead k fs places ml ss left → map placeOf ss ≡ places
 spots-at (no-entry {places = places}) = places-bare places
 spots-at {k} (an-entry {f = f} {places = places} {ml = ml} {p = p} {ss = ss} num e l r) =
     rw (map-append placeOf (map bare (take (value f) places)) (call p (take k ml) ∷ ss), places-bare (take (value f) places), spots-at r, ← e)
