@@ -8,7 +8,7 @@ use lib.IntN.{ℤ, pos, negsuc}
 use lib.ListN.{length, replicate}
 use lib.Dec.{leb}
 use Rattle.lent.specs.Lists.{every, among}
-use Rattle.lent.specs.Outcome.{Outcome, done, need}
+use Rattle.lent.specs.Outcome.{Outcome, done, need, andThen}
 
 -- ---- one operation: a BAM word is length times 16 plus kind, the kinds 0 to 8 being M I D N S H P = X
 
@@ -37,13 +37,15 @@ abbrev pub placesTaken : ℕ → ℕ
 placesTaken word = cond (takesPlaces (kindOf word)) (lengthOf word) 0
 
 -- the same of all operations
+abbrev pub total : (ℕ → ℕ) → List ℕ → ℕ
+total taken [] = 0
+total taken (w ∷ ws) = taken w + total taken ws
+
 abbrev pub queryLength : List ℕ → ℕ
-queryLength [] = 0
-queryLength (w ∷ ws) = basesTaken w + queryLength ws
+queryLength words = total basesTaken words
 
 abbrev pub referenceSpan : List ℕ → ℕ
-referenceSpan [] = 0
-referenceSpan (w ∷ ws) = placesTaken w + referenceSpan ws
+referenceSpan words = total placesTaken words
 
 -- ---- the walk: each base's place, or -1 where the base has none
 
@@ -89,10 +91,14 @@ abbrev pub startOf : ℤ → ℕ
 startOf (pos n) = n
 startOf (negsuc n) = 0
 
--- 13 for an unknown kind at any word or for the start, then 1, last 12 where the row lent for the places is too short
-abbrev pub queryPlaces : List ℕ → ℤ → Bool → ℕ → Outcome (List ℤ)
-queryPlaces words start reversed room =
+-- the check, apart from the walk: 13 for an unknown kind at any word or for the start, then 1; done with how many bases the read has
+abbrev pub checked : List ℕ → ℤ → Outcome ℕ
+checked words start =
     need (every isKnown words && isStart start) 13
     (need (leb (length words) 65535 && leb (queryLength words) 16000) 1
-    (need (leb (queryLength words) room) 12
-    (done (readPlaces reversed words (startOf start)))))
+    (done (queryLength words)))
+
+-- last 12, where the row lent for the places is too short
+abbrev pub queryPlaces : List ℕ → ℤ → Bool → ℕ → Outcome (List ℤ)
+queryPlaces words start reversed room =
+    andThen (checked words start) (λ bases. need (leb bases room) 12 (done (readPlaces reversed words (startOf start))))

@@ -1,2 +1,3 @@
 pub mod Cigar
+pub mod Walk
 pub mod Reference

@@ -1,6 +1,6 @@
 -- The reference under a read: whether a place lies in a CpG, and the bases at a row of places.
 -- Assumes nothing.
-use Prim.Native.Nat.{ℕ, suc, _+_, _-_}
+use Prim.Native.Nat.{ℕ, _+_, _-_}
 use mathlib.Core.Bool.{Bool, true, false, _&&_}
 use mathlib.Core.List.{List, map}
 use lib.IntN.{ℤ, pos, negsuc}

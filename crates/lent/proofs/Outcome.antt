@@ -5,8 +5,10 @@ use Prim.Native.Nat.{ℕ}
 use native.Mathlib.Omega.{arith}
 use mathlib.Core.Bool.{Bool, true, false, _&&_}
 use mathlib.Core.List.{List, [], _∷_}
-use Rattle.lent.specs.Outcome.{Outcome, refused, done, need, onDone, andThen, withFirst}
+use Rattle.lent.specs.Outcome.{Outcome, refused, done, need, onDone, andThen, withFirst, says}
 use Rattle.lent.specs.declared.Refusal.{Refusal}
+use Rattle.lent.specs.declared.Written.{Written}
+use Rattle.lent.specs.declared.Written.the-variants.{Done, Refused}
 
 module _ {A : Type 0} where
   pub done-inj : {a b : A} → done a ≡ done b → a ≡ b
@@ -44,3 +46,10 @@ module _ {A B : Type 0} where
   need-both true true n a f = refl
   need-both true false n a f = refl
   need-both false t n a f = refl
+
+-- an answer is known from what it says
+pub says-inj : (a b : Written) → says a ≡ says b → a ≡ b
+says-inj (Done m) (Done n) e = cc
+says-inj (Done m) (Refused s) e = let z : _≡_ {A = ℕ} 0 1 = cc in absurd (omega arith)
+says-inj (Refused r) (Done n) e = let z : _≡_ {A = ℕ} 0 1 = cc in absurd (omega arith)
+says-inj (Refused r) (Refused s) e = cc

@@ -20,9 +20,10 @@ use Rattle.samtags.specs.Reading.{inDomain, isBelow, nowhere, read, readTag, ro
 use Rattle.samtags.specs.Spots.{Group, Listing, listing}
 use Rattle.reading.proofs.CheckLaws.{tested}
 use Rattle.reading.specs.Calls.{countsOf, callsRead, listedCalls, readCalls}
-use Rattle.reading.specs.Scanning.{Columns, Finished, TagMeasured, TagScanned, aboveIn, finished, columns, withRows}
-use Rattle.reading.specs.declared.scan.Scan.{Scan}
-use Rattle.reading.specs.declared.scan.Scan.the-variants.{To, Refused}
+use Rattle.reading.specs.Measured.{TagMeasured}
+use Rattle.scanning.specs.Scanning.{Columns, Finished, TagScanned, aboveIn, columns, finished, withRows}
+use Rattle.scanning.specs.declared.Scan.{Scan}
+use Rattle.scanning.specs.declared.Scan.the-variants.{To, Refused}
 
 -- ---- a walk over no columns
 

@@ -1,4 +1,3 @@
-pub mod ScanLaws
 pub mod CheckLaws
 pub mod AnswerLaws
 pub mod Unique

@@ -1,15 +1,12 @@
 -- What the cases of each answer mean: the scope's number, and what was asked for.
 -- Assumes nothing.
 use Prim.Native.Nat.{ℕ}
-use Rattle.lent.specs.Outcome.{Outcome, refused, done, refusal}
-use Rattle.lent.specs.declared.Refusal.{Refusal}
+use Rattle.lent.specs.Outcome.{Outcome, refused, done}
 use Rattle.samtags.specs.Reading.{Tally}
 use Rattle.reading.specs.declared.Reading.{Reading}
 use Rattle.reading.specs.declared.Reading.the-variants as reading
 use Rattle.reading.specs.declared.Tallied.{Tallied}
 use Rattle.reading.specs.declared.Tallied.the-variants as tallied
-use Rattle.reading.specs.declared.scan.Scan.{Scan}
-use Rattle.reading.specs.declared.scan.Scan.the-variants as scan
 
 -- how many groups and how many calls
 abbrev pub readingSays : Reading → Outcome (ℕ × ℕ)
@@ -20,7 +17,3 @@ readingSays (reading.Refused r) = refused r
 abbrev pub tallySays : Tallied → Outcome Tally
 tallySays (tallied.Done above below) = done (record { above = above; below = below })
 tallySays (tallied.Refused r) = refused r
-
-abbrev pub scanRefusal : Scan → Refusal
-scanRefusal (scan.To c) = refusal 0
-scanRefusal (scan.Refused r) = r

@@ -10,12 +10,10 @@ ghost use Rattle.lent.specs.Outcome.{onDone, need};
 ghost use Rattle.samtags.specs.Reading.{readTag, tallyTag, inDomain, read, nowhere};
 ghost use Rattle.reading.specs.Answers.{readingSays, tallySays};
 ghost use Rattle.reading.specs.Calls.{countsOf, callsRead, readCalls};
-ghost use Rattle.reading.specs.Scanning.{TagMeasured};
-
-mod scan;
+ghost use Rattle.reading.specs.Measured.{TagMeasured};
 
 use lent::Refusal;
-use scan::Scan;
+use scanning::Scan;
 
 // A tag that was read, with how many groups and calls it has, or why it was refused.
 pub enum Reading {
@@ -40,7 +38,7 @@ fn measure(seq: &[u8], mm: &[u8], ml: &[u8], has_ml: bool) -> Scan
         (read «has_ml» nowhere (now (seq .entry)) (now (mm .entry)) (now (ml .entry))))
         r ⌝ }
 {
-    let taken = scan::values_taken(ml.len(), has_ml);
+    let taken = scanning::values_taken(ml.len(), has_ml);
     if 16000 < seq.len() {
         return Scan::Refused(Refusal(1));
     }
@@ -61,7 +59,7 @@ fn measure(seq: &[u8], mm: &[u8], ml: &[u8], has_ml: bool) -> Scan
     let mut groups: [u32; 0] = [];
     let mut places: [u32; 0] = [];
     let mut starts: [u32; 0] = [];
-    scan::scan_groups(
+    scanning::scan_groups(
         seq,
         mm,
         &ml[0..taken],
@@ -120,8 +118,8 @@ pub fn read_calls(
     if starts.len() < calls {
         return Reading::Refused(Refusal(12));
     }
-    let taken = scan::values_taken(ml.len(), has_ml);
-    scan::scan_groups(seq, mm, &ml[0..taken], has_ml, groups, places, starts);
+    let taken = scanning::values_taken(ml.len(), has_ml);
+    scanning::scan_groups(seq, mm, &ml[0..taken], has_ml, groups, places, starts);
     Reading::Done(end.group, calls)
 }
 

@@ -8,10 +8,10 @@ use Rattle.lent.specs.Outcome.{onDone, refused}
 use Rattle.reading.proofs.AnswerLaws.{tag-counted, tag-refused}
 use Rattle.reading.proofs.CheckLaws.{tested}
 use Rattle.reading.proofs.check_tag.Statement.{statement}
-use Rattle.reading.specs.Answers.{scanRefusal}
 use Rattle.reading.specs.Calls.{countsOf}
-use Rattle.reading.specs.Scanning.{TagMeasured}
-use Rattle.reading.specs.declared.scan.Scan.{Scan}
+use Rattle.reading.specs.Measured.{TagMeasured}
+use Rattle.scanning.specs.Answers.{scanRefusal}
+use Rattle.scanning.specs.declared.Scan.{Scan}
 use Rattle.reading.proofs.check_tag.Tie as tie
 
 -- what the walk's contract says of its answer r

@@ -15,7 +15,8 @@ use Rattle.samtags.specs.Text.{closedBy}
 use Rattle.reading.proofs.AnswerLaws.{measured}
 use Rattle.reading.proofs.CheckLaws.{four, one-ml, one-seq, one-text, read-on, taken-few, taken-is, tested, three}
 use Rattle.reading.proofs.measure.Statement.{statement}
-use Rattle.reading.specs.Scanning.{TagMeasured, columns}
+use Rattle.reading.specs.Measured.{TagMeasured}
+use Rattle.scanning.specs.Scanning.{columns}
 use Rattle.reading.proofs.measure.Tie as tie
 
 values-taken-requires : tie.Need-values-taken-requires

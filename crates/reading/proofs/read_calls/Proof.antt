@@ -15,10 +15,11 @@ use Rattle.samtags.specs.Text.{closedBy}
 use Rattle.reading.proofs.AnswerLaws.{calls-done, calls-refused, scanned-rows, short-groups, short-places, short-starts, tag-known, tag-refused}
 use Rattle.reading.proofs.CheckLaws.{passed, taken-few, taken-is, tested}
 use Rattle.reading.proofs.read_calls.Statement.{statement}
-use Rattle.reading.specs.Answers.{scanRefusal}
 use Rattle.reading.specs.Calls.{callsRead, countsOf}
-use Rattle.reading.specs.Scanning.{TagMeasured, TagScanned, columns}
-use Rattle.reading.specs.declared.scan.Scan.{Scan}
+use Rattle.reading.specs.Measured.{TagMeasured}
+use Rattle.scanning.specs.Answers.{scanRefusal}
+use Rattle.scanning.specs.Scanning.{TagScanned, columns}
+use Rattle.scanning.specs.declared.Scan.{Scan}
 use Rattle.reading.proofs.read_calls.Tie as tie
 
 -- what the first walk's contract says of its answer r

@@ -10,9 +10,9 @@ use Rattle.samtags.specs.Reading.{isAbove}
 use Rattle.reading.proofs.AnswerLaws.{tally-done, tally-refused}
 use Rattle.reading.proofs.CheckLaws.{tested}
 use Rattle.reading.proofs.tally.Statement.{statement}
-use Rattle.reading.specs.Answers.{scanRefusal}
-use Rattle.reading.specs.Scanning.{TagMeasured}
-use Rattle.reading.specs.declared.scan.Scan.{Scan}
+use Rattle.reading.specs.Measured.{TagMeasured}
+use Rattle.scanning.specs.Answers.{scanRefusal}
+use Rattle.scanning.specs.declared.Scan.{Scan}
 use Rattle.reading.proofs.tally.Tie as tie
 
 -- what the walk's contract says of its answer r

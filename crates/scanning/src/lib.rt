@@ -1,0 +1,243 @@
+// One walk over a tag from the left, which answers, counts, lists the calls and tallies their values. The columns are written as far as they reach, so
+// that the same walk over empty columns measures, and over the caller's own, once the list is known to fit, writes.
+ghost use mathlib.Core.Path.{_≡_};
+ghost use mathlib.Core.Bool.{cond};
+ghost use mathlib.Core.List.{[]};
+ghost use Prim.Native.Nat.{_+_, _≤_, _<_};
+ghost use lib.ListN.{length, take, drop, set};
+ghost use Rattle.lent.specs.Lists.{filter, lastOr};
+ghost use Rattle.lent.specs.Outcome.{need};
+ghost use Rattle.samtags.specs.Bytes.{comma, semicolon};
+ghost use Rattle.samtags.specs.Text.{upTo, ledBy, closedBy};
+ghost use Rattle.samtags.specs.Spots.{tracked};
+ghost use Rattle.samtags.specs.Reading.{nowhere, readSpots, readGroup, readGroups, read, inDomain, isAbove};
+ghost use Rattle.tagtext.specs.Fields.{fieldOf};
+ghost use Rattle.scanning.specs.Answers.{scanRefusal};
+ghost use Rattle.scanning.specs.Scanning.{columns, aboveIn, EntriesScanned, GroupScanned, TagScanned};
+use lent::Refusal;
+use tagtext::fields;
+use tagtext::headers;
+use tagtext::places::Entry;
+use tagtext::places::Place;
+use tagtext::places::find_entry;
+
+// Where a walk stands: the byte of the text and the value of ML that come next, how many groups and calls were passed, and how many of the
+// values that were passed are above.
+pub struct Cursor {
+    pub at: usize,
+    pub used: usize,
+    pub group: usize,
+    pub calls: usize,
+    pub above: usize,
+}
+
+pub enum Scan {
+    To(Cursor),
+    Refused(Refusal),
+}
+
+impl Scan {
+    // The refusal, passed on whole.
+    pub fn refusal(self) -> Refusal
+        ensures { λ r. ⌜ r ≡ scanRefusal self ⌝ }
+    {
+        match self {
+            Scan::To(_) => Refusal(0),
+            Scan::Refused(refusal) => refusal,
+        }
+    }
+}
+
+// Stores an entry of a column if the column reaches so far.
+fn put(column: &mut [u32], n: usize, v: u32)
+    ensures { λ _. ⌜ now (column .exit) ≡ set (now (column .entry)) n v ⌝ }
+{
+    if n < column.len() {
+        column[n] = v;
+    }
+}
+
+// Stores a call's row as the n-th of the list.
+fn list_call(
+    groups: &mut [u32],
+    places: &mut [u32],
+    starts: &mut [u32],
+    n: usize,
+    group: usize,
+    place: Place,
+    start: usize,
+)
+    requires { ⌜ (group ≤ 65536) × (place .0 ≤ 65536) × (start ≤ 65536) ⌝ }
+    ensures { λ _. ⌜ now (groups .exit) ≡ set (now (groups .entry)) n group ⌝ }
+    ensures { λ _. ⌜ now (places .exit) ≡ set (now (places .entry)) n (place .0) ⌝ }
+    ensures { λ _. ⌜ now (starts .exit) ≡ set (now (starts .entry)) n start ⌝ }
+{
+    put(groups, n, group as u32);
+    put(places, n, place.0 as u32);
+    put(starts, n, start as u32);
+}
+
+// How many of the n values from a place of ML on are above.
+fn count_above(ml: &[u8], from: usize, n: usize) -> usize
+    requires { ⌜ from + n ≤ length (now ml) ⌝ }
+    ensures { λ r. ⌜ r ≡ aboveIn (take n (drop from (now (ml .entry)))) ⌝ }
+{
+    let mut above: usize = 0;
+    let mut i = 0;
+    while i < n {
+        if 128 <= ml[from + i] {
+            above += 1;
+        }
+        i += 1;
+    }
+    above
+}
+
+// A group's entries, from the separator at the cursor on, up to the ';' that closes the group.
+fn scan_entries(
+    seq: &[u8],
+    text: &[u8],
+    ml: &[u8],
+    base: u8,
+    values: usize,
+    start: Cursor,
+    groups: &mut [u32],
+    places: &mut [u32],
+    starts: &mut [u32],
+) -> Scan
+    requires { ⌜ (length (now seq) ≤ 16000) × (length (now text) ≤ 65536) × (length (now ml) ≤ 65536) ⌝ }
+    requires { ⌜ start .at + length (upTo semicolon (drop (start .at) (now text))) < length (now text) ⌝ }
+    requires { ⌜ length (fieldOf (drop (start .at) (now text))) ≡ 0 ⌝ }
+    requires { ⌜ (start .used ≤ length (now ml)) × (start .group ≤ start .at) × (start .calls ≤ start .at) × (start .above ≡ aboveIn (take (start .used) (now ml))) ⌝ }
+    ensures { λ r.
+        ⌜ EntriesScanned (now (text .entry)) (now (ml .entry)) start
+        (readSpots values nowhere (ledBy comma (upTo semicolon (drop (start .at) (now (text .entry))))) (tracked base (now (seq .entry))) (drop (start .used) (now (ml .entry))))
+        (columns (now (groups .entry)) (now (places .entry)) (now (starts .entry)))
+        r
+        (columns (now (groups .exit)) (now (places .exit)) (now (starts .exit))) ⌝ }
+{
+    let mut at = start.at;
+    let mut used = start.used;
+    let mut calls = start.calls;
+    let mut above = start.above;
+    let mut from = Place(0);
+    while text[at] == b',' {
+        let field = fields::next_field(text, at + 1);
+        let entry = find_entry(seq, base, field, from);
+        let Entry::On(place) = entry else {
+            return Scan::Refused(entry.refusal());
+        };
+        if ml.len() - used < values {
+            return Scan::Refused(Refusal(8));
+        }
+        list_call(groups, places, starts, calls, start.group, place, used);
+        above = above + count_above(ml, used, values);
+        from = Place(place.0 + 1);
+        used = used + values;
+        calls = calls + 1;
+        at = at + 1 + field.len();
+    }
+    Scan::To(Cursor {
+        at: at,
+        used: used,
+        group: start.group,
+        calls: calls,
+        above: above,
+    })
+}
+
+// The group that begins at the cursor, up to and with its ';'.
+fn scan_group(
+    seq: &[u8],
+    text: &[u8],
+    ml: &[u8],
+    has_ml: bool,
+    start: Cursor,
+    groups: &mut [u32],
+    places: &mut [u32],
+    starts: &mut [u32],
+) -> Scan
+    requires { ⌜ (length (now seq) ≤ 16000) × (length (now text) ≤ 65536) × (length (now ml) ≤ 65536) ⌝ }
+    requires { ⌜ start .at + length (upTo semicolon (drop (start .at) (now text))) < length (now text) ⌝ }
+    requires { ⌜ (start .used ≤ length (now ml)) × (start .group ≤ start .at) × (start .calls ≤ start .at) × (start .above ≡ aboveIn (take (start .used) (now ml))) ⌝ }
+    ensures { λ r.
+        ⌜ GroupScanned (now (text .entry)) (now (ml .entry)) start
+        (readGroup «has_ml» nowhere (now (seq .entry)) (upTo semicolon (drop (start .at) (now (text .entry)))) (drop (start .used) (now (ml .entry))))
+        (columns (now (groups .entry)) (now (places .entry)) (now (starts .entry)))
+        r
+        (columns (now (groups .exit)) (now (places .exit)) (now (starts .exit))) ⌝ }
+{
+    let at = start.at;
+    let header = fields::next_field(text, at);
+    if header.len() < 2 {
+        return Scan::Refused(Refusal(5));
+    }
+    let values = headers::values_if(has_ml, header);
+    let base = headers::base_of(header);
+    let entries = Cursor {
+        at: at + header.len(),
+        used: start.used,
+        group: start.group + 1,
+        calls: start.calls,
+        above: start.above,
+    };
+    let scanned = scan_entries(seq, text, ml, base, values, entries, groups, places, starts);
+    let Scan::To(end) = scanned else {
+        return scanned;
+    };
+    Scan::To(Cursor {
+        at: end.at + 1,
+        used: end.used,
+        group: end.group,
+        calls: end.calls,
+        above: end.above,
+    })
+}
+
+// All groups of a text that ends in ';'; after the last no value of ML may be left over.
+pub fn scan_groups(
+    seq: &[u8],
+    text: &[u8],
+    ml: &[u8],
+    has_ml: bool,
+    groups: &mut [u32],
+    places: &mut [u32],
+    starts: &mut [u32],
+) -> Scan
+    requires { ⌜ (length (now seq) ≤ 16000) × (length (now text) ≤ 65536) × (length (now ml) ≤ 65536) × (lastOr 0 (now text) ≡ semicolon) ⌝ }
+    ensures { λ r.
+        ⌜ TagScanned (now (ml .entry))
+        (readGroups «has_ml» nowhere (now (seq .entry)) (closedBy semicolon (now (text .entry))) (now (ml .entry)))
+        (columns (now (groups .entry)) (now (places .entry)) (now (starts .entry)))
+        r
+        (columns (now (groups .exit)) (now (places .exit)) (now (starts .exit))) ⌝ }
+{
+    let mut c = Cursor {
+        at: 0,
+        used: 0,
+        group: 0,
+        calls: 0,
+        above: 0,
+    };
+    while c.at < text.len() {
+        let scanned = scan_group(seq, text, ml, has_ml, c, groups, places, starts);
+        let Scan::To(next) = scanned else {
+            return scanned;
+        };
+        c = next;
+    }
+    if c.used < ml.len() {
+        return Scan::Refused(Refusal(9));
+    }
+    Scan::To(c)
+}
+
+// How many values of the row lent for ML there are: none where there is no ML.
+pub fn values_taken(lent: usize, has_ml: bool) -> usize
+    ensures { λ r. ⌜ r ≡ cond «has_ml» lent 0 ⌝ }
+{
+    if has_ml {
+        return lent;
+    }
+    0
+}
