@@ -107,6 +107,17 @@ pub worked-values :
 unfolding valuesPer endsInQuestion digits value maskTag cutTag
 worked-values = (refl, refl, refl, refl, refl, refl)
 
+-- which number comes first: 8 before 10 at one entry, an entry's 10 before a later group's 5, 7 before a later entry's 6, and a group's 5 before
+-- the 9 that is asked after the last group; a skip past 2^64 is 7
+pub order-of-refusals :
+    (dropFromTag true (ascii "C") (0 ∷ []) (ascii "C+m,0;") [] 100 100 ≡ refuse 8)
+    × (dropFromTag true (ascii "C") (0 ∷ []) (ascii "C+m,0;;") (7 ∷ []) 100 100 ≡ refuse 10)
+    × (calls (ascii "C") "C+m?,9,x;" (7 ∷ []) ≡ refuse 7)
+    × (calls (ascii "C") "C+m?,0;C;" (1 ∷ 2 ∷ []) ≡ refuse 5)
+    × (calls (ascii "CC") "C+m?,18446744073709551616;" (7 ∷ []) ≡ refuse 7)
+unfolding dropFromTag calls
+order-of-refusals = (refl, refl, refl, refl, refl)
+
 -- the call list: groups from 1, and where each call's values start
 pub call-list-example :
     andThen (readTag true (ascii "CGC") (ascii "C+mh?,0,0;G-m?;N+n?,2;") (1 ∷ 2 ∷ 3 ∷ 4 ∷ 5 ∷ [])) (λ ls. done (callList ls))

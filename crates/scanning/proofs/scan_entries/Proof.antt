@@ -54,7 +54,7 @@ went k =
     let h = k .before .before .before .before .before .before .before .before .loop in
     let g = k .before .before .entry .given in
     entry-went (a .values) nowhere (k .before .before .before .before .before .next-field .result .now) (h .from .0) (a .base) (a .seq .now) (length (a .ml .now) - h .used) (g .0 .0 .0)
-    (sym (ap entrySays (g .1)) ∙ k .before .before .before .before .find-entry .ensures) (k .if2 .left) refl
+    (sym (ap entrySays (g .1)) ∙ k .before .before .before .before .find-entry .ensures) (omega arith) refl
 
 -- what the turn's sums stay below
 bounds : (k : tie.Else2 Inv-loop μ-loop) →
