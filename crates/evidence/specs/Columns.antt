@@ -1,17 +1,16 @@
 -- What is done with the three columns of evidence: gating, truncating, the counts as tags hold them, restoring SEQ.
 -- Assumes nothing.
 use Prim.Native.Nat.{ℕ, min}
-use mathlib.Core.Bool.{Bool, cond, _&&_}
+use mathlib.Core.Bool.{cond, _&&_}
 use mathlib.Core.List.{List, map}
 use lib.IntN.{ℤ, pos}
-use lib.ListN.{length, take}
 use lib.Dec.{leb, eqb}
 use Rattle.lent.specs.Lists.{zipWith}
-use Rattle.lent.specs.Outcome.{Outcome, done, need}
+use Rattle.lent.specs.Outcome.{Outcome, done, need, andThen}
 use Rattle.pattern.specs.Case.{sameInAnyCase}
 use Rattle.pattern.specs.Patterns.{basesOf}
 use Rattle.pattern.specs.declared.ConversionPattern.{ConversionPattern}
-use Rattle.evidence.specs.Reads.{isYes, yesByte}
+use Rattle.evidence.specs.Reads.{isYes, yesByte, inRoom}
 
 -- ---- entry by entry
 
@@ -42,3 +41,12 @@ columnsOf inf unc con =
 -- SEQ and the column that says what is informative
 unfoldable pub restorable : ℕ → ℕ → Outcome ℕ
 restorable seq inf = need (leb seq 16000 && leb inf 16000) 1 (need (eqb inf seq) 2 (done seq))
+
+-- the first positions of three columns, no more than asked for, into three rows
+unfoldable pub truncated : ℕ → ℕ → ℕ → ℕ → ℕ → ℕ → ℕ → Outcome ℕ
+truncated len inf unc con keptInf keptUnc keptCon =
+    andThen (columnsOf inf unc con) (λ n. inRoom (min len n) keptInf keptUnc keptCon)
+
+-- one column's counts into a row of so many
+unfoldable pub countsInRoom : ℕ → ℕ → ℕ → ℕ → Outcome ℕ
+countsInRoom inf unc con room = andThen (columnsOf inf unc con) (λ n. need (leb n room) 12 (done n))

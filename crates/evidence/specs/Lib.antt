@@ -1,4 +1,5 @@
 pub mod Position
 pub mod Reads
 pub mod Columns
+pub mod Counting
 pub mod Row

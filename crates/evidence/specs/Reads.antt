@@ -68,9 +68,12 @@ abbrev pub sum : List ℕ → ℕ
 sum [] = 0
 sum (n ∷ ns) = n + sum ns
 
+-- n entries have room in each of three rows
+unfoldable pub inRoom : ℕ → ℕ → ℕ → ℕ → Outcome ℕ
+inRoom n inf unc con = need (leb n inf && leb n unc && leb n con) 12 (done n)
+
 unfoldable pub annotated : ℕ → List ℕ → List ℕ → List ℕ → ℕ → ℕ → ℕ → Outcome ℕ
 annotated n lengths bases aligned inf unc con =
     need (leb n 16000 && leb (length lengths) 4096 && leb (length bases) 1048576 && leb (length aligned) 1048576) 1
     (need (eqb (sum lengths) (length bases) && eqb (length aligned) (length bases)) 2
-    (need (leb n inf && leb n unc && leb n con) 12
-    (done n)))
+    (inRoom n inf unc con))

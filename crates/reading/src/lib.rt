@@ -11,7 +11,6 @@ ghost use Rattle.samtags.specs.Reading.{readTag, tallyTag, inDomain, read, nowh
 ghost use Rattle.reading.specs.Answers.{readingSays, tallySays};
 ghost use Rattle.reading.specs.Calls.{countsOf, callsRead, readCalls};
 ghost use Rattle.reading.specs.Measured.{TagMeasured};
-
 use lent::Refusal;
 use scanning::Scan;
 

@@ -17,7 +17,12 @@ counted-if-requires-2 : tie.Need-counted-if-requires-2
 counted-if-requires-2 c κs = search needs
 
 returns : tie.Need-returns
-returns c = rw (c .before .before .counted-if .ensures, c .counted-if2 .ensures, c .before .before .before .before .to-ascii-uppercase .ensures, c .before .before .before .before .before .bases .ensures)
+returns c = rw (
+  c .before .before .counted-if .ensures,
+  c .counted-if2 .ensures,
+  c .before .before .before .before .to-ascii-uppercase .ensures,
+  c .before .before .before .before .before .bases .ensures,
+)
 
 pub counted-spec : {M : Type 1} → statement M
 counted-spec =

@@ -1,11 +1,13 @@
 -- `gated` gives the evidence as it is where the position is informative, and none elsewhere.
 -- Assumes nothing.
+use mathlib.Core.Path.{_≡_}
+use mathlib.Core.Bool.{true}
 use borrow.Author.Needs.{needs}
 use Rattle.evidence.proofs.MethylationEvidence.gated.Statement.{statement}
 use Rattle.evidence.proofs.MethylationEvidence.gated.Tie as tie
 
 returns : tie.Need-returns
-returns c = search needs
+returns c = let yes : c .before .args .self .informative ≡ true = c .if1 .taken in rw yes
 
 new-requires : tie.Need-new-requires
 new-requires c κs = search needs
