@@ -1,22 +1,19 @@
--- A row whose first records are gated, what `gate_row` leaves, and that gating a row means what gating the columns means.
+-- A row whose first records are gated and what `gate_row` leaves.
 -- Assumes nothing.
-use mathlib.Core.Path.{_≡_, refl, sym, _∙_}
-use mathlib.Core.List.{List, [], _∷_, map}
+use mathlib.Core.Path.{_≡_, sym, _∙_}
 use Prim.Native.Nat.{ℕ, suc, _≤_, _<_}
 use native.Mathlib.Omega.{arith}
-use mathlib.Core.Bool.{true, false}
-use lib.ListN.{length, getD, set, length-map}
+use mathlib.Core.List.{List, map}
 use lib.Dec.{leb}
-use borrow.Author.Tests.{leb-true}
-use Rattle.lent.specs.Filled.{leaves}
+use lib.ListN.{length, getD, set, length-map}
 use Rattle.lent.proofs.Filled.{leaves-done, leaves-refused, over-all}
 use Rattle.lent.proofs.InPlace.{changedUpTo, length-changed, changed-more, changed-not-yet, changed-is-map}
 use Rattle.lent.proofs.Tests.{by-test}
-use Rattle.evidence.specs.declared.MethylationEvidence.{MethylationEvidence}
+use Rattle.lent.specs.Filled.{leaves}
 use Rattle.evidence.specs.Position.{gated}
-use Rattle.evidence.specs.Reads.{isYes}
-use Rattle.evidence.specs.Columns.{gatedCounts}
-use Rattle.evidence.specs.Row.{recordsOf, gatedRow, rowOf, recordsToGate}
+use Rattle.evidence.specs.Row.{gatedRow, rowOf, recordsToGate}
+use Rattle.evidence.specs.declared.MethylationEvidence.{MethylationEvidence}
+use denote.Index.{row}
 
 -- the first k records gated
 abbrev pub gatedUpTo : ℕ → List MethylationEvidence → List MethylationEvidence
@@ -42,12 +39,3 @@ unfolding gatedRow rowOf
 row-is-left row = by-test (leb (length row) 16000)
     (λ e. rw e (changed-is-map gated 0 row ∙ sym (leaves-done (λ (n : ℕ). map gated row) (length row) row ∙ over-all (map gated row) row (length-map row gated))))
     (λ e. rw e (sym (leaves-refused (λ (n : ℕ). map gated row) _ row)))
-
--- gating the row that the columns make is making a row of the gated columns
-pub gated-row-is-gated-columns : (ys us cs : List ℕ) → gatedRow (recordsOf ys us cs) ≡ recordsOf ys (gatedCounts ys us) (gatedCounts ys cs)
-unfolding gatedRow recordsOf
-gated-row-is-gated-columns [] us cs = refl
-gated-row-is-gated-columns (y ∷ ys) [] cs = refl
-gated-row-is-gated-columns (y ∷ ys) (u ∷ us) [] = refl
-gated-row-is-gated-columns (y ∷ ys) (u ∷ us) (c ∷ cs) =
-    by-test (isYes y) (λ e. rw (e, gated-row-is-gated-columns ys us cs)) (λ e. rw (e, gated-row-is-gated-columns ys us cs))

@@ -2,19 +2,11 @@
 -- Assumes nothing.
 use Prim.Native.Nat.{ℕ}
 use mathlib.Core.Bool.{cond}
-use mathlib.Core.List.{List, [], _∷_, map}
+use mathlib.Core.List.{List, map}
 use lib.Dec.{leb}
 use Rattle.lent.specs.Outcome.{Outcome, done, need}
 use Rattle.evidence.specs.Position.{gated}
-use Rattle.evidence.specs.Reads.{isYes}
 use Rattle.evidence.specs.declared.MethylationEvidence.{MethylationEvidence}
-
--- the columns as a row: a record for each position, as far as all three go
-unfoldable pub recordsOf : List ℕ → List ℕ → List ℕ → List MethylationEvidence
-recordsOf [] us cs = []
-recordsOf (y ∷ ys) [] cs = []
-recordsOf (y ∷ ys) (u ∷ us) [] = []
-recordsOf (y ∷ ys) (u ∷ us) (c ∷ cs) = record { informative = isYes y; unconverted = u; converted = c } ∷ recordsOf ys us cs
 
 -- each record gated
 unfoldable pub gatedRow : List MethylationEvidence → List MethylationEvidence

@@ -1,0 +1,5 @@
+pub mod Leaves
+pub mod Outcomes
+pub mod Unique
+pub mod Examples
+pub mod GatedRow

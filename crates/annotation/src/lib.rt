@@ -1,0 +1,193 @@
+// The methylation annotation of a consensus: counting it from reads, gating, truncating, the counts as tags hold them, restoring SEQ. Port step 3.
+//
+// Names are the Rust's. The Rust's vector of evidence is three lent columns: informative (nonzero is yes, and yes is written as 1), unconverted and
+// converted. No function here asks anything of its caller, and each contract is an equation with a definition of the crate `rows`, which also does the
+// work once a call is known not to be refused.
+ghost use mathlib.Core.Path.{_≡_};
+ghost use Prim.Native.Nat.{ℕ};
+ghost use lib.ListN.{length, take};
+ghost use Rattle.lent.specs.Outcome.{says};
+ghost use Rattle.lent.specs.Filled.{leaves};
+ghost use Rattle.rows.specs.Reads.{readsOf, informativeColumn, unconvertedColumn, convertedColumn, annotated};
+ghost use Rattle.rows.specs.Columns.{gatedCounts, asYes, asTagCounts, restored, columnsOf, restorable, truncated, countsInRoom};
+use lent::Written;
+use pattern::ConversionPattern;
+
+// Marks each position of the consensus whose reference base is the pattern's, and counts the reads that show the unconverted and the
+// converted base there; with `count_all_positions` it counts at every position, aligned or not. The reads stand one after the other in
+// `read_bases`, each with as many bases as its length says, and `read_aligned` has a byte for each base. What reads and reference row have
+// beyond the consensus is not looked at.
+// Done with the consensus' length, which is how many entries of each column are filled; 1 for what is too long, 2 where lengths, bases and
+// aligned bytes disagree, 12 where a column has no room for the consensus.
+pub fn annotate_simplex_methylation(
+    consensus_len: usize,
+    read_lengths: &[u32],
+    read_bases: &[u8],
+    ref_bases: &[u8],
+    pattern: ConversionPattern,
+    read_aligned: &[u8],
+    count_all_positions: bool,
+    informative: &mut [u8],
+    unconverted: &mut [u32],
+    converted: &mut [u32],
+) -> Written
+    ensures { λ r. ⌜ (let o = annotated «consensus_len» (now («read_lengths» .entry)) (now («read_bases» .entry)) (now («read_aligned» .entry))
+        (length (now (informative .entry))) (length (now (unconverted .entry))) (length (now (converted .entry))) in
+        let row = now («ref_bases» .entry) in
+        let reads = readsOf (now («read_lengths» .entry)) (now («read_bases» .entry)) (now («read_aligned» .entry)) in
+        (says r ≡ o)
+        × (now (informative .exit) ≡ leaves (informativeColumn pattern row) o (now (informative .entry)))
+        × (now (unconverted .exit) ≡ leaves (unconvertedColumn pattern «count_all_positions» row reads) o (now (unconverted .entry)))
+        × (now (converted .exit) ≡ leaves (convertedColumn pattern «count_all_positions» row reads) o (now (converted .entry)))) ⌝ }
+{
+    let asked = rows::checks::annotated(
+        consensus_len,
+        read_lengths,
+        read_bases,
+        read_aligned,
+        informative.len(),
+        unconverted.len(),
+        converted.len(),
+    );
+    let Written::Done(n) = asked else {
+        return asked;
+    };
+    rows::counting::fill(
+        read_lengths,
+        read_bases,
+        ref_bases,
+        pattern,
+        read_aligned,
+        count_all_positions,
+        &mut informative[0..n],
+        &mut unconverted[0..n],
+        &mut converted[0..n],
+    );
+    asked
+}
+
+// Zeroes both counts where the position is not informative.
+// Done with the number of positions, or 1 or 2 where the columns are too long or disagree in length.
+pub fn gate_to_informative(
+    informative: &[u8],
+    unconverted: &mut [u32],
+    converted: &mut [u32],
+) -> Written
+    ensures { λ r. ⌜ (let o = columnsOf (length (now (informative .entry))) (length (now (unconverted .entry))) (length (now (converted .entry))) in
+        (says r ≡ o)
+        × (now (unconverted .exit) ≡ leaves (λ (n : ℕ). gatedCounts (now (informative .entry)) (now (unconverted .entry))) o (now (unconverted .entry)))
+        × (now (converted .exit) ≡ leaves (λ (n : ℕ). gatedCounts (now (informative .entry)) (now (converted .entry))) o (now (converted .entry)))) ⌝ }
+{
+    let asked = rows::checks::columns_of(informative.len(), unconverted.len(), converted.len());
+    let Written::Done(_) = asked else {
+        return asked;
+    };
+    rows::columns::gate(informative, unconverted);
+    rows::columns::gate(informative, converted);
+    asked
+}
+
+// The first `len` positions, or all where there are fewer, into three other rows.
+// Done with how many entries of each row are filled; 1 or 2 as for gating, and 12 where a row has no room for them.
+pub fn truncate(
+    len: usize,
+    informative: &[u8],
+    unconverted: &[u32],
+    converted: &[u32],
+    kept_informative: &mut [u8],
+    kept_unconverted: &mut [u32],
+    kept_converted: &mut [u32],
+) -> Written
+    ensures { λ r. ⌜ (let o = truncated len (length (now (informative .entry))) (length (now (unconverted .entry))) (length (now (converted .entry)))
+        (length (now («kept_informative» .entry))) (length (now («kept_unconverted» .entry))) (length (now («kept_converted» .entry))) in
+        (says r ≡ o)
+        × (now («kept_informative» .exit) ≡ leaves (λ (k : ℕ). asYes (take k (now (informative .entry)))) o (now («kept_informative» .entry)))
+        × (now («kept_unconverted» .exit) ≡ leaves (λ (k : ℕ). take k (now (unconverted .entry))) o (now («kept_unconverted» .entry)))
+        × (now («kept_converted» .exit) ≡ leaves (λ (k : ℕ). take k (now (converted .entry))) o (now («kept_converted» .entry)))) ⌝ }
+{
+    let asked = rows::checks::truncated(
+        len,
+        informative.len(),
+        unconverted.len(),
+        converted.len(),
+        kept_informative.len(),
+        kept_unconverted.len(),
+        kept_converted.len(),
+    );
+    let Written::Done(k) = asked else {
+        return asked;
+    };
+    rows::columns::copy_marks(&informative[0..k], kept_informative);
+    rows::columns::copy_counts(&unconverted[0..k], kept_unconverted);
+    rows::columns::copy_counts(&converted[0..k], kept_converted);
+    asked
+}
+
+// The unconverted counts as the `cu` tag holds them: signed 16-bit numbers, 32,767 for any count above it.
+// Done with the number of positions; 1 or 2 as for gating, and 12 where there is no room for them.
+pub fn unconverted_counts(
+    informative: &[u8],
+    unconverted: &[u32],
+    converted: &[u32],
+    counts: &mut [i16],
+) -> Written
+    ensures { λ r. ⌜ (let o = countsInRoom (length (now (informative .entry))) (length (now (unconverted .entry))) (length (now (converted .entry)))
+        (length (now (counts .entry))) in
+        (says r ≡ o) × (now (counts .exit) ≡ leaves (λ (n : ℕ). asTagCounts (now (unconverted .entry))) o (now (counts .entry)))) ⌝ }
+{
+    let asked = rows::checks::counts_in_room(
+        informative.len(),
+        unconverted.len(),
+        converted.len(),
+        counts.len(),
+    );
+    let Written::Done(_) = asked else {
+        return asked;
+    };
+    rows::columns::put_tag_counts(unconverted, counts);
+    asked
+}
+
+// The converted counts as the `ct` tag holds them; answers as above.
+pub fn converted_counts(
+    informative: &[u8],
+    unconverted: &[u32],
+    converted: &[u32],
+    counts: &mut [i16],
+) -> Written
+    ensures { λ r. ⌜ (let o = countsInRoom (length (now (informative .entry))) (length (now (unconverted .entry))) (length (now (converted .entry)))
+        (length (now (counts .entry))) in
+        (says r ≡ o) × (now (counts .exit) ≡ leaves (λ (n : ℕ). asTagCounts (now (converted .entry))) o (now (counts .entry)))) ⌝ }
+{
+    let asked = rows::checks::counts_in_room(
+        informative.len(),
+        unconverted.len(),
+        converted.len(),
+        counts.len(),
+    );
+    let Written::Done(_) = asked else {
+        return asked;
+    };
+    rows::columns::put_tag_counts(converted, counts);
+    asked
+}
+
+// Writes the unconverted base over the converted one, in any case, where the position is informative; every other base stays.
+// Done with the number of bases, or 1 or 2 where they or the column are too long or disagree in length.
+pub fn restore_unconverted_bases(
+    consensus_bases: &mut [u8],
+    pattern: ConversionPattern,
+    informative: &[u8],
+) -> Written
+    ensures { λ r. ⌜ (let o = restorable (length (now («consensus_bases» .entry))) (length (now (informative .entry))) in
+        (says r ≡ o)
+        × (now («consensus_bases» .exit)
+        ≡ leaves (λ (n : ℕ). restored pattern (now (informative .entry)) (now («consensus_bases» .entry))) o (now («consensus_bases» .entry)))) ⌝ }
+{
+    let asked = rows::checks::restorable(consensus_bases.len(), informative.len());
+    let Written::Done(_) = asked else {
+        return asked;
+    };
+    rows::columns::restore(consensus_bases, pattern, informative);
+    asked
+}

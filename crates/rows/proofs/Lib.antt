@@ -1,0 +1,4 @@
+pub mod Tabulate
+pub mod Counted
+pub mod Joined
+pub mod Order

@@ -1,0 +1,79 @@
+-- Evidence counted over the reads: which of them count at a position, which bases they show there, and how many of a kind.
+-- Assumes nothing.
+use Prim.Native.Nat.{ℕ, _+_}
+use mathlib.Core.Bool.{Bool, true, false, not, _&&_, _||_}
+use mathlib.Core.List.{List, [], _∷_, map}
+use lib.ListN.{length, getD, take, drop}
+use lib.Dec.{leb, ltb, eqb}
+use Rattle.lent.specs.Lists.{filter, tabulate}
+use Rattle.lent.specs.Outcome.{Outcome, done, need}
+use Rattle.pattern.specs.Case.{upper}
+use Rattle.pattern.specs.Patterns.{basesOf}
+use Rattle.pattern.specs.declared.ConversionPattern.{ConversionPattern}
+use Rattle.evidence.specs.Position.{capped}
+
+-- any byte but 0 says yes, and yes is written as 1
+abbrev pub isYes : ℕ → Bool
+isYes b = not (eqb b 0)
+
+abbrev pub yesByte : Bool → ℕ
+yesByte true = 1
+yesByte false = 0
+
+-- a source read: its bases, and for each a byte that says whether it is aligned
+pub record Read : Type 0 where
+  pub bases : List ℕ
+  pub aligned : List ℕ
+
+-- the reads of joined rows: each takes as many as its length says from where the last one ended
+unfoldable pub readsOf : List ℕ → List ℕ → List ℕ → List Read
+readsOf [] bases aligned = []
+readsOf (n ∷ ns) bases aligned = record { bases = take n bases; aligned = take n aligned } ∷ readsOf ns (drop n bases) (drop n aligned)
+
+-- the reference base is the pattern's, in any case; beyond the reference row there is none
+unfoldable pub informativeAt : ConversionPattern → List ℕ → ℕ → Bool
+informativeAt p row i = eqb (upper (getD row i 0)) (basesOf p .reference)
+
+-- a read counts at a position if it reaches it and, unless all positions are counted, the position is informative and the read aligned there
+abbrev pub countsAt : Bool → Bool → ℕ → Read → Bool
+countsAt all? informative? i r = ltb i (length (r .bases)) && (all? || (informative? && isYes (getD (r .aligned) i 0)))
+
+-- what the reads that count at a position show there, in upper case
+unfoldable pub basesAt : Bool → Bool → ℕ → List Read → List ℕ
+basesAt all? informative? i reads = map (λ r. upper (getD (r .bases) i 0)) (filter (countsAt all? informative? i) reads)
+
+-- how many of the bases are this one
+unfoldable pub howMany : ℕ → List ℕ → ℕ
+howMany base bases = length (filter (eqb base) bases)
+
+-- ---- the columns, an entry for each position below n
+
+abbrev pub informativeColumn : ConversionPattern → List ℕ → ℕ → List ℕ
+informativeColumn p row n = tabulate n (λ i. yesByte (informativeAt p row i))
+
+-- how many of the reads that count at a position show this base there
+abbrev pub countColumn : ℕ → ConversionPattern → Bool → List ℕ → List Read → ℕ → List ℕ
+countColumn base p all? row reads n = tabulate n (λ i. capped (howMany base (basesAt all? (informativeAt p row i) i reads)))
+
+abbrev pub unconvertedColumn : ConversionPattern → Bool → List ℕ → List Read → ℕ → List ℕ
+unconvertedColumn p all? row reads n = countColumn (basesOf p .unconverted) p all? row reads n
+
+abbrev pub convertedColumn : ConversionPattern → Bool → List ℕ → List Read → ℕ → List ℕ
+convertedColumn p all? row reads n = countColumn (basesOf p .converted) p all? row reads n
+
+-- ---- the public call: 1 for what is lent and for the consensus, 2 where lengths, bases and aligned bytes disagree, last 12; done with the
+-- consensus' length. The rooms are those of the three lent columns.
+
+abbrev pub sum : List ℕ → ℕ
+sum [] = 0
+sum (n ∷ ns) = n + sum ns
+
+-- n entries have room in each of three rows
+unfoldable pub inRoom : ℕ → ℕ → ℕ → ℕ → Outcome ℕ
+inRoom n inf unc con = need (leb n inf && leb n unc && leb n con) 12 (done n)
+
+unfoldable pub annotated : ℕ → List ℕ → List ℕ → List ℕ → ℕ → ℕ → ℕ → Outcome ℕ
+annotated n lengths bases aligned inf unc con =
+    need (leb n 16000 && leb (length lengths) 4096 && leb (length bases) 1048576 && leb (length aligned) 1048576) 1
+    (need (eqb (sum lengths) (length bases) && eqb (length aligned) (length bases)) 2
+    (inRoom n inf unc con))
