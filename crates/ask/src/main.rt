@@ -2,18 +2,23 @@
 // cases. A line is fields with tabs between; its answer is a line: the number of the scope and the fields of what was asked, or `?` where
 // the line is no request or is longer than the buffer. oracle/README.md says what a request may hold.
 //
-// main.rt reads lines and hands each to its call; text.rt takes a line apart; reply.rt writes an answer; a file for each group of calls.
+// Lines are read here, and each is handed to its call: the crates that are named after the library's, as `evidence_answers`. `asking` and
+// `replying` have the form of requests and answers.
 ghost use mathlib.Core.Path.{_≡_};
 ghost use Prim.Native.Nat.{_+_, _≤_};
 ghost use lib.ListN.{length};
-
-mod pat;
-mod reply;
-mod text;
-
+use alignment_answers::pat;
+use alignment_answers::places;
+use asking::text;
 use bytes::scan::find;
+use evidence_answers::columns;
+use evidence_answers::counting;
+use inplace_answers::gate;
+use inplace_answers::restore;
 use libc::STDIN_FILENO;
 use libc::STDOUT_FILENO;
+use replying::reply;
+use tags_answers::read;
 
 // What is known of the input: how many bytes of the buffer are filled, and whether they belong to a line that was too long for it and has
 // its answer already; and whether the input has ended.
@@ -47,6 +52,48 @@ fn answer(line: &[u8], out: &mut [u8]) -> usize
     let name = text::field(line, 0);
     if check::same(name, b"PAT") {
         return pat::answer(line, out);
+    }
+    if check::same(name, b"Q") {
+        return places::answer_q(line, out);
+    }
+    if check::same(name, b"CPG") {
+        return places::answer_cpg(line, out);
+    }
+    if check::same(name, b"FETCH") {
+        return places::answer_fetch(line, out);
+    }
+    answer_of_evidence(line, name, out)
+}
+
+fn answer_of_evidence(line: &[u8], name: &[u8], out: &mut [u8]) -> usize
+    ensures { λ r. ⌜ r ≤ length (now (out .exit)) ⌝ }
+{
+    if check::same(name, b"ANN") {
+        return counting::answer_ann(line, out);
+    }
+    if check::same(name, b"GATE") {
+        return gate::answer_gate(line, out);
+    }
+    if check::same(name, b"TRUNC") {
+        return columns::answer_trunc(line, out);
+    }
+    if check::same(name, b"CNT") {
+        return columns::answer_cnt(line, out);
+    }
+    if check::same(name, b"REST") {
+        return restore::answer_rest(line, out);
+    }
+    answer_of_tags(line, name, out)
+}
+
+fn answer_of_tags(line: &[u8], name: &[u8], out: &mut [u8]) -> usize
+    ensures { λ r. ⌜ r ≤ length (now (out .exit)) ⌝ }
+{
+    if check::same(name, b"CALLS") {
+        return read::answer_calls(line, out);
+    }
+    if check::same(name, b"TALLY") {
+        return read::answer_tally(line, out);
     }
     reply::unknown(out)
 }

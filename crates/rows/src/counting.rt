@@ -6,9 +6,9 @@ ghost use Rattle.lent.specs.Lists.{tabulate};
 ghost use Rattle.pattern.specs.Patterns.{basesOf};
 ghost use Rattle.rows.specs.Reads.{Read, readsOf, yesByte, informativeAt, informativeColumn, unconvertedColumn, convertedColumn, sum};
 ghost use Rattle.rows.specs.Counting.{countedThere, addRead, addReads};
-use evidence::MethylationEvidence;
 use crate::checks::smaller;
 use crate::columns::yes_byte;
+use evidence::MethylationEvidence;
 use pattern::ConversionPattern;
 
 // The mark of position i: whether its reference base is the pattern's. Beyond the reference row there is none.
