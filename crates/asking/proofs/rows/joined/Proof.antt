@@ -9,7 +9,8 @@ use Rattle.asking.proofs.rows.joined.Statement.{statement}
 use Rattle.asking.proofs.rows.joined.Tie as tie
 
 abbrev Inv-loop : tie.InvT-loop
-Inv-loop s lengths₀ row₀ from₀ n₀ used₀ lengths row from n used = (from ≤ length s) × (n ≤ length lengths) × (used ≤ length row) × (length lengths ≡ length lengths₀) × (length row ≡ length row₀)
+Inv-loop s lengths₀ row₀ from₀ n₀ used₀ lengths row from n used =
+    (from ≤ length s) × (n ≤ length lengths) × (used ≤ length row) × (length lengths ≡ length lengths₀) × (length row ≡ length row₀)
 
 abbrev μ-loop : tie.MeasureT-loop
 μ-loop s lengths₀ row₀ from₀ n₀ used₀ lengths row from n used = length lengths - n
