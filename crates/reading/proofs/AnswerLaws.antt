@@ -106,18 +106,28 @@ module _ (ml? : Bool) (seq text ml gs ps ss : List ℕ) where
 
       pub short-places : n ≤ length gs → length ps < n → readCalls ml? seq text ml gs ps ss ≡ callsRead (refuse 12) gs ps ss
       unfolding fits
-      short-places a h = no-room (rw (le-leb (length (callList ls)) (length gs) (omega arith), lt-leb (length (callList ls)) (length ps) (omega arith)))
+      short-places a h =
+          no-room (rw (le-leb (length (callList ls)) (length gs) (omega arith), lt-leb (length (callList ls)) (length ps) (omega arith)))
 
       pub short-starts : n ≤ length gs → n ≤ length ps → length ss < n → readCalls ml? seq text ml gs ps ss ≡ callsRead (refuse 12) gs ps ss
       unfolding fits
       short-starts a b h =
-          no-room (rw (le-leb (length (callList ls)) (length gs) (omega arith), le-leb (length (callList ls)) (length ps) (omega arith), lt-leb (length (callList ls)) (length ss) (omega arith)))
+          no-room (rw (
+            le-leb (length (callList ls)) (length gs) (omega arith),
+            le-leb (length (callList ls)) (length ps) (omega arith),
+            lt-leb (length (callList ls)) (length ss) (omega arith),
+          ))
 
       pub calls-done : n ≤ length gs → n ≤ length ps → n ≤ length ss → (gs′ ps′ ss′ : List ℕ)
           → withRows (columns gs ps ss) 0 (callList ls) ≡ columns gs′ ps′ ss′ → readCalls ml? seq text ml gs ps ss ≡ callsRead (done (countsOf ls)) gs′ ps′ ss′
       unfolding readCalls listedCalls leaves
       calls-done a b c gs′ ps′ ss′ h =
-          rw (e, le-leb (length (callList ls)) (length gs) (omega arith), le-leb (length (callList ls)) (length ps) (omega arith), le-leb (length (callList ls)) (length ss) (omega arith))
+          rw (
+            e,
+            le-leb (length (callList ls)) (length gs) (omega arith),
+            le-leb (length (callList ls)) (length ps) (omega arith),
+            le-leb (length (callList ls)) (length ss) (omega arith),
+          )
           (λ j. callsRead (done (countsOf ls)) (front (λ r. r .group) gs (omega arith) gs′ (ap (λ (x : Columns). x .groups) h) j)
           (front (λ r. r .place) ps (omega arith) ps′ (ap (λ (x : Columns). x .places) h) j) (front (λ r. r .start) ss (omega arith) ss′ (ap (λ (x : Columns). x .starts) h) j))
         where

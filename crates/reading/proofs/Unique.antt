@@ -40,8 +40,13 @@ pub read-calls-unique : (ml? : Bool) (seq mm ml groups places starts : List ℕ)
     → callsRead (readingSays r) g p a ≡ readCalls ml? seq mm ml groups places starts
     → callsRead (readingSays s) h q b ≡ readCalls ml? seq mm ml groups places starts → (r ≡ s) × (g ≡ h) × (p ≡ q) × (a ≡ b)
 read-calls-unique ml? seq mm ml groups places starts r s g h p q a b e f =
-    let same = settled (callsRead (readingSays r) g p a) (callsRead (readingSays s) h q b) e f in
-    (reading-says-inj r s (ap (λ (c : CallsRead). c .answer) same), ap (λ (c : CallsRead). c .groups) same, ap (λ (c : CallsRead). c .places) same, ap (λ (c : CallsRead). c .starts) same)
+    let same = settled (callsRead (readingSays r) g p a) (callsRead (readingSays s) h q b) e f in (
+      reading-says-inj r s (ap (λ (c : CallsRead). c .answer) same),
+      ap (λ (c : CallsRead). c .groups) same,
+      ap (λ (c : CallsRead). c .places) same,
+      ap
+          (λ (c : CallsRead). c .starts) same,
+    )
 
 pub tally-unique : (seq mm ml : List ℕ) (r s : Tallied) → tallySays r ≡ tallyTag seq mm ml → tallySays s ≡ tallyTag seq mm ml → r ≡ s
 tally-unique seq mm ml r s p q = tally-says-inj r s (settled (tallySays r) (tallySays s) p q)

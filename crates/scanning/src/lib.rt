@@ -2,15 +2,13 @@
 // that the same walk over empty columns measures, and over the caller's own, once the list is known to fit, writes.
 ghost use mathlib.Core.Path.{_≡_};
 ghost use mathlib.Core.Bool.{cond};
-ghost use mathlib.Core.List.{[]};
 ghost use Prim.Native.Nat.{_+_, _≤_, _<_};
 ghost use lib.ListN.{length, take, drop, set};
-ghost use Rattle.lent.specs.Lists.{filter, lastOr};
-ghost use Rattle.lent.specs.Outcome.{need};
+ghost use Rattle.lent.specs.Lists.{lastOr};
 ghost use Rattle.samtags.specs.Bytes.{comma, semicolon};
 ghost use Rattle.samtags.specs.Text.{upTo, ledBy, closedBy};
 ghost use Rattle.samtags.specs.Spots.{tracked};
-ghost use Rattle.samtags.specs.Reading.{nowhere, readSpots, readGroup, readGroups, read, inDomain, isAbove};
+ghost use Rattle.samtags.specs.Reading.{nowhere, readSpots, readGroup, readGroups};
 ghost use Rattle.tagtext.specs.Fields.{fieldOf};
 ghost use Rattle.scanning.specs.Answers.{scanRefusal};
 ghost use Rattle.scanning.specs.Scanning.{columns, aboveIn, EntriesScanned, GroupScanned, TagScanned};
@@ -108,10 +106,12 @@ fn scan_entries(
     requires { ⌜ (length (now seq) ≤ 16000) × (length (now text) ≤ 65536) × (length (now ml) ≤ 65536) ⌝ }
     requires { ⌜ start .at + length (upTo semicolon (drop (start .at) (now text))) < length (now text) ⌝ }
     requires { ⌜ length (fieldOf (drop (start .at) (now text))) ≡ 0 ⌝ }
-    requires { ⌜ (start .used ≤ length (now ml)) × (start .group ≤ start .at) × (start .calls ≤ start .at) × (start .above ≡ aboveIn (take (start .used) (now ml))) ⌝ }
+    requires { ⌜ (start .used ≤ length (now ml)) × (start .group ≤ start .at) × (start .calls ≤ start .at)
+        × (start .above ≡ aboveIn (take (start .used) (now ml))) ⌝ }
     ensures { λ r.
         ⌜ EntriesScanned (now (text .entry)) (now (ml .entry)) start
-        (readSpots values nowhere (ledBy comma (upTo semicolon (drop (start .at) (now (text .entry))))) (tracked base (now (seq .entry))) (drop (start .used) (now (ml .entry))))
+        (readSpots values nowhere (ledBy comma (upTo semicolon (drop (start .at) (now (text .entry))))) (tracked base (now (seq .entry)))
+        (drop (start .used) (now (ml .entry))))
         (columns (now (groups .entry)) (now (places .entry)) (now (starts .entry)))
         r
         (columns (now (groups .exit)) (now (places .exit)) (now (starts .exit))) ⌝ }
@@ -159,7 +159,8 @@ fn scan_group(
 ) -> Scan
     requires { ⌜ (length (now seq) ≤ 16000) × (length (now text) ≤ 65536) × (length (now ml) ≤ 65536) ⌝ }
     requires { ⌜ start .at + length (upTo semicolon (drop (start .at) (now text))) < length (now text) ⌝ }
-    requires { ⌜ (start .used ≤ length (now ml)) × (start .group ≤ start .at) × (start .calls ≤ start .at) × (start .above ≡ aboveIn (take (start .used) (now ml))) ⌝ }
+    requires { ⌜ (start .used ≤ length (now ml)) × (start .group ≤ start .at) × (start .calls ≤ start .at)
+        × (start .above ≡ aboveIn (take (start .used) (now ml))) ⌝ }
     ensures { λ r.
         ⌜ GroupScanned (now (text .entry)) (now (ml .entry)) start
         (readGroup «has_ml» nowhere (now (seq .entry)) (upTo semicolon (drop (start .at) (now (text .entry)))) (drop (start .used) (now (ml .entry))))

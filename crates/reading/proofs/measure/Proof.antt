@@ -35,7 +35,8 @@ returns-2 c =
 returns-3 : tie.Need-returns-3
 returns-3 c =
     let a = c .before .before .before .before .before .before .before .args in
-    one-ml (a .has-ml) (a .seq .now) (a .mm .now) (a .ml .now) (omega arith) (omega arith) (c .before .before .before .values-taken .result) (c .before .before .before .values-taken .ensures) (omega arith)
+    one-ml (a .has-ml) (a .seq .now) (a .mm .now) (a .ml .now) (omega arith) (omega arith) (c .before .before .before .values-taken .result)
+    (c .before .before .before .values-taken .ensures) (omega arith)
 
 all-ascii-requires : tie.Need-all-ascii-requires
 all-ascii-requires c κs = search needs
@@ -43,7 +44,8 @@ all-ascii-requires c κs = search needs
 returns-4 : tie.Need-returns-4
 returns-4 c =
     let a = c .before .before .before .before .before .before .before .before .before .args in
-    three (a .has-ml) (a .seq .now) (a .mm .now) (a .ml .now) (omega arith) (omega arith) (c .before .before .before .before .before .values-taken .result) (c .before .before .before .before .before .values-taken .ensures) (omega arith)
+    three (a .has-ml) (a .seq .now) (a .mm .now) (a .ml .now) (omega arith) (omega arith)
+    (c .before .before .before .before .before .values-taken .result) (c .before .before .before .before .before .values-taken .ensures) (omega arith)
     (sym (c .before .all-ascii .ensures) ∙ not-true _ (c .if4 .taken))
 
 ends-in-semicolon-requires : tie.Need-ends-in-semicolon-requires
@@ -52,8 +54,11 @@ ends-in-semicolon-requires c κs = search needs
 returns-5 : tie.Need-returns-5
 returns-5 c =
     let a = c .before .before .before .before .before .before .before .before .before .before .before .args in
-    four (a .has-ml) (a .seq .now) (a .mm .now) (a .ml .now) (omega arith) (omega arith) (c .before .before .before .before .before .before .before .values-taken .result) (c .before .before .before .before .before .before .before .values-taken .ensures) (omega arith)
-    (sym (c .before .before .before .all-ascii .ensures) ∙ not-false _ (c .before .before .if4 .left)) (sym (c .before .ends-in-semicolon .ensures) ∙ not-true _ (c .if5 .taken))
+    four (a .has-ml) (a .seq .now) (a .mm .now) (a .ml .now) (omega arith) (omega arith)
+    (c .before .before .before .before .before .before .before .values-taken .result)
+    (c .before .before .before .before .before .before .before .values-taken .ensures) (omega arith)
+    (sym (c .before .before .before .all-ascii .ensures) ∙ not-false _ (c .before .before .if4 .left))
+    (sym (c .before .ends-in-semicolon .ensures) ∙ not-true _ (c .if5 .taken))
 
 sub-scan-groups : tie.Need-sub-scan-groups
 sub-scan-groups c = omega arith
@@ -62,7 +67,13 @@ part-scan-groups-start : tie.Need-part-scan-groups-start
 part-scan-groups-start c = omega arith
 
 part-scan-groups-end : tie.Need-part-scan-groups-end
-part-scan-groups-end c = omega (arith, c .before .before .before .before .before .before .before .values-taken .ensures, taken-few (c .before .before .before .before .before .before .before .before .before .before .before .args .has-ml) (length (c .before .before .before .before .before .before .before .before .before .before .before .args .ml .now)))
+part-scan-groups-end c = omega (
+  arith,
+  c .before .before .before .before .before .before .before .values-taken .ensures,
+  taken-few
+      (c .before .before .before .before .before .before .before .before .before .before .before .args .has-ml)
+      (length (c .before .before .before .before .before .before .before .before .before .before .before .args .ml .now)),
+)
 
 slice-aggregate-scan-groups : tie.Need-slice-aggregate-scan-groups
 slice-aggregate-scan-groups c = search needs
@@ -76,8 +87,13 @@ slice-aggregate-scan-groups-3 c = search needs
 scan-groups-requires : tie.Need-scan-groups-requires
 scan-groups-requires c κs =
     let taken = c .before .before .before .before .before .before .before .before .before .before .before .values-taken .result in
-    let ml = c .before .before .before .before .before .before .before .before .before .before .before .before .before .before .before .args .ml .now in
-    (omega arith, omega arith, omega (arith, length-take (taken - 0) ml), eqb-true _ 59 (sym (c .before .before .before .before .before .ends-in-semicolon .ensures) ∙ not-false _ (c .before .before .before .before .if5 .left)))
+    let ml = c .before .before .before .before .before .before .before .before .before .before .before .before .before .before .before .args .ml .now in (
+      omega arith,
+      omega arith,
+      omega (arith, length-take (taken - 0) ml),
+      eqb-true _ 59
+          (sym (c .before .before .before .before .before .ends-in-semicolon .ensures) ∙ not-false _ (c .before .before .before .before .if5 .left)),
+    )
 
 returns-6 : tie.Need-returns-6
 returns-6 c =
@@ -88,9 +104,13 @@ returns-6 c =
     let l = w .scan-groups .last .1 .1 .1 .1 in
     let after = columns (l .0) (l .1 .0) (l .1 .1 .0) in
     let all : v .result - 0 ≡ cond (a .has-ml) (length (a .ml .now)) 0 = omega (arith, v .ensures) in
-    let on : tested (a .has-ml) (a .seq .now) (a .mm .now) (a .ml .now) ≡ readGroups (a .has-ml) nowhere (a .seq .now) (closedBy 59 (a .mm .now)) (cond (a .has-ml) (a .ml .now) []) =
+    let on : tested (a .has-ml) (a .seq .now) (a .mm .now) (a .ml .now) ≡ readGroups (a .has-ml) nowhere (a .seq .now) (closedBy 59 (a .mm .now))
+    (cond (a .has-ml) (a .ml .now) []) =
     read-on (a .has-ml) (a .seq .now) (a .mm .now) (a .ml .now) (omega arith) (omega arith) (v .result) (v .ensures) (omega arith)
-    (sym (w .before .before .before .before .before .before .before .before .all-ascii .ensures) ∙ not-false _ (w .before .before .before .before .before .before .before .if4 .left)) (sym (w .before .before .before .before .before .before .ends-in-semicolon .ensures) ∙ not-false _ (w .before .before .before .before .before .if5 .left)) in
+    (sym (w .before .before .before .before .before .before .before .before .all-ascii .ensures) ∙ not-false _
+    (w .before .before .before .before .before .before .before .if4 .left))
+    (sym (w .before .before .before .before .before .before .ends-in-semicolon .ensures) ∙ not-false _
+    (w .before .before .before .before .before .if5 .left)) in
     subst (λ (o : Outcome (List Group)). TagMeasured (cond (a .has-ml) (a .ml .now) []) o r) (sym on)
     (subst (λ (m : List ℕ). TagMeasured m (readGroups (a .has-ml) nowhere (a .seq .now) (closedBy 59 (a .mm .now)) m) r)
     (taken-is (a .has-ml) (a .ml .now) (v .result - 0) all) (measured _ _ _ r after (w .scan-groups .ensures)))

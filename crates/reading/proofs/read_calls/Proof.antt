@@ -70,21 +70,24 @@ returns-2 c =
     let k = c .before in
     let a = k .before .before .before .before .before .before .before .before .before .before .args in
     let w = known k in
-    sym (short-groups (a .has-ml) (a .seq .now) (a .mm .now) (a .ml .now) (a .groups .now) (a .places .now) (a .starts .now) (map listing (w .0)) (w .2) _ (count k) (omega arith))
+    sym (short-groups (a .has-ml) (a .seq .now) (a .mm .now) (a .ml .now) (a .groups .now) (a .places .now) (a .starts .now) (map listing (w .0))
+    (w .2) _ (count k) (omega arith))
 
 returns-3 : tie.Need-returns-3
 returns-3 c =
     let k = c .before .before in
     let a = k .before .before .before .before .before .before .before .before .before .before .args in
     let w = known k in
-    sym (short-places (a .has-ml) (a .seq .now) (a .mm .now) (a .ml .now) (a .groups .now) (a .places .now) (a .starts .now) (map listing (w .0)) (w .2) _ (count k) (omega arith) (omega arith))
+    sym (short-places (a .has-ml) (a .seq .now) (a .mm .now) (a .ml .now) (a .groups .now) (a .places .now) (a .starts .now) (map listing (w .0))
+    (w .2) _ (count k) (omega arith) (omega arith))
 
 returns-4 : tie.Need-returns-4
 returns-4 c =
     let k = c .before .before .before in
     let a = k .before .before .before .before .before .before .before .before .before .before .args in
     let w = known k in
-    sym (short-starts (a .has-ml) (a .seq .now) (a .mm .now) (a .ml .now) (a .groups .now) (a .places .now) (a .starts .now) (map listing (w .0)) (w .2) _ (count k) (omega arith) (omega arith) (omega arith))
+    sym (short-starts (a .has-ml) (a .seq .now) (a .mm .now) (a .ml .now) (a .groups .now) (a .places .now) (a .starts .now) (map listing (w .0))
+    (w .2) _ (count k) (omega arith) (omega arith) (omega arith))
 
 values-taken-requires : tie.Need-values-taken-requires
 values-taken-requires c κs = search needs
@@ -96,15 +99,26 @@ part-scan-groups-start : tie.Need-part-scan-groups-start
 part-scan-groups-start c = omega arith
 
 part-scan-groups-end : tie.Need-part-scan-groups-end
-part-scan-groups-end c = omega (arith, c .values-taken .ensures, taken-few (c .before .before .before .before .before .before .before .before .before .before .before .before .before .before .args .has-ml) (length (c .before .before .before .before .before .before .before .before .before .before .before .before .before .before .args .ml .now)))
+part-scan-groups-end c = omega (
+  arith,
+  c .values-taken .ensures,
+  taken-few
+      (c .before .before .before .before .before .before .before .before .before .before .before .before .before .before .args .has-ml)
+      (length (c .before .before .before .before .before .before .before .before .before .before .before .before .before .before .args .ml .now)),
+)
 
 scan-groups-requires : tie.Need-scan-groups-requires
 scan-groups-requires c κs =
     let v = c .before .before .before .before in
     let a = v .before .before .before .before .before .before .before .before .before .before .before .before .before .before .args in
     let w = known (v .before .before .before .before) in
-    let p = passed (a .has-ml) (a .seq .now) (a .mm .now) (a .ml .now) (w .0) (w .1) in
-    (p .seq-fits, p .text-fits, omega (arith, v .values-taken .ensures, p .ml-fits, length-take (v .values-taken .result - 0) (a .ml .now)), p .closed)
+    let p = passed (a .has-ml) (a .seq .now) (a .mm .now) (a .ml .now) (w .0) (w .1) in (
+      p .seq-fits,
+      p .text-fits,
+      omega
+          (arith, v .values-taken .ensures, p .ml-fits, length-take (v .values-taken .result - 0) (a .ml .now)),
+      p .closed,
+    )
 
 same-length : tie.Need-same-length
 same-length c = c .before .before .before .before .before .before .scan-groups .kept .1 .1 .1 .1 .0
@@ -127,11 +141,14 @@ returns-5 c =
     let r = s .scan-groups .result in
     let before = columns (a .groups .now) (a .places .now) (a .starts .now) in
     let all : v .values-taken .result - 0 ≡ cond (a .has-ml) (length (a .ml .now)) 0 = omega (arith, v .values-taken .ensures) in
-    let second = subst (λ (m : List ℕ). TagScanned m (readGroups (a .has-ml) nowhere (a .seq .now) (closedBy 59 (a .mm .now)) m) before r (columns (l .0) (l .1 .0) (l .1 .1 .0)))
+    let second = subst (λ (m : List ℕ). TagScanned m (readGroups (a .has-ml) nowhere (a .seq .now) (closedBy 59 (a .mm .now)) m) before r
+    (columns (l .0) (l .1 .0) (l .1 .1 .0)))
     (taken-is (a .has-ml) (a .ml .now) (v .values-taken .result - 0) all) (s .scan-groups .ensures) in
     ap (λ (n : ℕ × ℕ). callsRead (done n) (l .0) (l .1 .0) (l .1 .1 .0)) (sym (w .3))
-    ∙ sym (calls-done (a .has-ml) (a .seq .now) (a .mm .now) (a .ml .now) (a .groups .now) (a .places .now) (a .starts .now) (map listing (w .0)) (w .2) _ (count k)
-    (omega arith) (omega arith) (omega arith) (l .0) (l .1 .0) (l .1 .1 .0) (scanned-rows _ _ before r (columns (l .0) (l .1 .0) (l .1 .1 .0)) (w .0) (p .groups) second))
+    ∙ sym (calls-done (a .has-ml) (a .seq .now) (a .mm .now) (a .ml .now) (a .groups .now) (a .places .now) (a .starts .now) (map listing (w .0))
+    (w .2) _ (count k)
+    (omega arith) (omega arith) (omega arith) (l .0) (l .1 .0) (l .1 .1 .0)
+    (scanned-rows _ _ before r (columns (l .0) (l .1 .0) (l .1 .1 .0)) (w .0) (p .groups) second))
 
 pub read-calls-spec : {M : Type 1} → statement M
 read-calls-spec =

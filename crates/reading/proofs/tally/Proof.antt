@@ -39,7 +39,8 @@ returns : tie.Need-returns
 returns c =
     let a = c .before .before .before .before .before .before .before .args in
     let g = c .before .enum-told .given in
-    ap refused (c .refusal .ensures ∙ ap scanRefusal (g .1)) ∙ sym (tally-refused (a .seq .now) (a .mm .now) (a .ml .now) (g .0 .0) (walked (c .before .before .before) _ (g .1)))
+    ap refused (c .refusal .ensures ∙ ap scanRefusal (g .1)) ∙ sym
+    (tally-refused (a .seq .now) (a .mm .now) (a .ml .now) (g .0 .0) (walked (c .before .before .before) _ (g .1)))
 
 sub-t9 : tie.Need-sub-t9
 sub-t9 c =

@@ -4,7 +4,7 @@ use mathlib.Core.Path.{_∙_, _≡_, ap, refl, sym}
 use Prim.Native.Nat.{_+_, _-_, _<_, _≤_, ℕ}
 use native.Mathlib.Omega.{arith}
 use mathlib.Core.List.{[], List}
-use lib.ListN.{drop, length, length-drop, take}
+use lib.ListN.{drop, length, length-drop, take, set}
 use lib.Seq.{length-take-le}
 use borrow.Author.Needs.{needs}
 use Rattle.lent.proofs.Outcome.{on-done-refused}
@@ -46,14 +46,16 @@ went : (k : tie.Else2 Inv-loop μ-loop) →
     let a = k .before .before .before .before .before .before .before .before .before .before .before .before .before .before .before .args in
     let h = k .before .before .before .before .before .before .before .before .loop in
     let p = k .before .before .entry .given .0 .0 .0 in
-    (readEntry (a .values) nowhere (k .before .before .before .before .before .next-field .result .now) (trackedFrom (a .base) (h .from .0) (a .seq .now)) (length (a .ml .now) - h .used)
+    (readEntry (a .values) nowhere (k .before .before .before .before .before .next-field .result .now)
+    (trackedFrom (a .base) (h .from .0) (a .seq .now)) (length (a .ml .now) - h .used)
     ≡ done (p, trackedFrom (a .base) (p + 1) (a .seq .now)))
     × (p < length (a .seq .now))
 went k =
     let a = k .before .before .before .before .before .before .before .before .before .before .before .before .before .before .before .args in
     let h = k .before .before .before .before .before .before .before .before .loop in
     let g = k .before .before .entry .given in
-    entry-went (a .values) nowhere (k .before .before .before .before .before .next-field .result .now) (h .from .0) (a .base) (a .seq .now) (length (a .ml .now) - h .used) (g .0 .0 .0)
+    entry-went (a .values) nowhere (k .before .before .before .before .before .next-field .result .now) (h .from .0) (a .base) (a .seq .now)
+    (length (a .ml .now) - h .used) (g .0 .0 .0)
     (sym (ap entrySays (g .1)) ∙ k .before .before .before .before .find-entry .ensures) (omega arith) refl
 
 -- what the turn's sums stay below
@@ -61,13 +63,15 @@ bounds : (k : tie.Else2 Inv-loop μ-loop) →
     let a = k .before .before .before .before .before .before .before .before .before .before .before .before .before .before .before .args in
     let h = k .before .before .before .before .before .before .before .before .loop in
     (h .used + a .values ≤ length (a .ml .now)) × (length (a .ml .now) ≤ 65536) × (h .calls ≤ h .at) × (a .start .at ≤ h .at)
-    × (h .at + 1 + length (k .before .before .before .before .before .next-field .result .now) < length (a .text .now)) × (length (a .text .now) ≤ 65536)
+    × (h .at + 1 + length (k .before .before .before .before .before .next-field .result .now) < length (a .text .now)) ×
+    (length (a .text .now) ≤ 65536)
 bounds k =
     let a = k .before .before .before .before .before .before .before .before .before .before .before .before .before .before .before .args in
     let h = k .before .before .before .before .before .before .before .before .loop in
     let f = k .before .before .before .before .before .next-field in
     let low : h .at < length (a .text .now) = omega arith in
-    let rest = turn-rest (a .values) nowhere (a .text .now) (h .at) low (k .before .before .before .before .before .before .if1 .taken) (f .result .now) (f .ensures) [] (a .ml .now) (h .used) in
+    let rest = turn-rest (a .values) nowhere (a .text .now) (h .at) low (k .before .before .before .before .before .before .if1 .taken)
+    (f .result .now) (f .ensures) [] (a .ml .now) (h .used) in
     omega (arith, rest)
 
 loop-holds : tie.Need-loop-holds Inv-loop μ-loop
@@ -114,10 +118,12 @@ returns c =
     let left = length (a .ml .now) - h .used in
     let low : h .at < length (a .text .now) = omega arith in
     let six-or-seven : readEntry (a .values) nowhere (f .result .now) places left ≡ refused (g .0 .0) =
-    entry-refused (a .values) nowhere (f .result .now) places left (g .0 .0) (sym (ap entrySays (g .1)) ∙ c .before .before .before .find-entry .ensures) in
+    entry-refused (a .values) nowhere (f .result .now) places left (g .0 .0)
+    (sym (ap entrySays (g .1)) ∙ c .before .before .before .find-entry .ensures) in
     on-done-refused _ _ _ (h .inv .7
     ∙ ap (onDone (listedSpots (a .start .group) (columns (h .groups) (h .places) (h .starts)) (h .calls) (h .used)))
-    (turn-refused (a .values) nowhere (a .text .now) (h .at) low (c .before .before .before .before .before .if1 .taken) (f .result .now) (f .ensures) places (a .ml .now) (h .used) (g .0 .0) six-or-seven)
+    (turn-refused (a .values) nowhere (a .text .now) (h .at) low (c .before .before .before .before .before .if1 .taken) (f .result .now)
+    (f .ensures) places (a .ml .now) (h .used) (g .0 .0) six-or-seven)
     ∙ ap refused (sym (c .refusal .ensures ∙ ap entryRefusal (g .1))))
 
 sub-if2 : tie.Need-sub-if2 Inv-loop μ-loop
@@ -144,8 +150,10 @@ returns-2 c =
     let low : h .at < length (a .text .now) = omega arith in
     on-done-refused _ _ _ (h .inv .7
     ∙ ap (onDone (listedSpots (a .start .group) (columns (h .groups) (h .places) (h .starts)) (h .calls) (h .used)))
-    (turn-refused (a .values) nowhere (a .text .now) (h .at) low (c .before .before .before .before .before .before .if1 .taken) (f .result .now) (f .ensures) places (a .ml .now) (h .used) _
-    (entry-eight (a .values) nowhere (f .result .now) places left (g .0 .0 .0) (sym (ap entrySays (g .1)) ∙ c .before .before .before .before .find-entry .ensures) (c .if2 .taken))))
+    (turn-refused (a .values) nowhere (a .text .now) (h .at) low (c .before .before .before .before .before .before .if1 .taken) (f .result .now)
+    (f .ensures) places (a .ml .now) (h .used) _
+    (entry-eight (a .values) nowhere (f .result .now) places left (g .0 .0 .0)
+    (sym (ap entrySays (g .1)) ∙ c .before .before .before .before .find-entry .ensures) (omega arith))))
 
 list-call-requires : tie.Need-list-call-requires Inv-loop μ-loop
 list-call-requires c κs = omega (arith, went (c .before .before .before) .1)
@@ -156,7 +164,16 @@ count-above-requires c κs = omega arith
 add-above : tie.Need-add-above Inv-loop μ-loop
 add-above c =
     let h = c .before .before .before .before .before .before .before .before .before .before .before .before .before .before .before .before .before .before .before .loop in
-    omega (arith, h .inv .6, c .count-above .ensures, bounds (c .before .before .before .before .before .before .before .before .before .before .before), above-used (c .before .before .before .before .before .before .before .before .before .before .before .before .before .before .before .before .before .before .before .before .before .before .before .before .before .before .args .ml .now) (h .used) (c .before .before .before .before .before .before .before .before .before .before .before .before .before .before .before .before .before .before .before .before .before .before .before .before .before .before .args .values), above-few (c .before .before .before .before .before .before .before .before .before .before .before .before .before .before .before .before .before .before .before .before .before .before .before .before .before .before .args .ml .now) (h .used + c .before .before .before .before .before .before .before .before .before .before .before .before .before .before .before .before .before .before .before .before .before .before .before .before .before .before .args .values))
+    omega (
+      arith,
+      h .inv .6,
+      c .count-above .ensures,
+      bounds
+          (c .before .before .before .before .before .before .before .before .before .before .before),
+      above-used
+          (c .before .before .before .before .before .before .before .before .before .before .before .before .before .before .before .before .before .before .before .before .before .before .before .before .before .before .args .ml .now) (h .used) (c .before .before .before .before .before .before .before .before .before .before .before .before .before .before .before .before .before .before .before .before .before .before .before .before .before .before .args .values),
+      above-few (c .before .before .before .before .before .before .before .before .before .before .before .before .before .before .before .before .before .before .before .before .before .before .before .before .before .before .args .ml .now) (h .used + c .before .before .before .before .before .before .before .before .before .before .before .before .before .before .before .before .before .before .before .before .before .before .before .before .before .before .args .values),
+    )
 
 add-at : tie.Need-add-at Inv-loop μ-loop
 add-at c = omega (arith, went (c .before .before .before .before .before .before .before .before .before .before .before .before) .1)
@@ -190,7 +207,11 @@ loop-again c =
     let low : h .at < length t = omega (arith, b) in
     let comma = k .before .before .before .before .before .before .if1 .taken in
     let l = c .before .before .before .before .before .before .before .before .list-call in
-    let rest = readSpots (a .values) nowhere (ledBy 44 (upTo 59 (drop (h .at + 1 + length (f .result .now)) t))) (trackedFrom (a .base) (p + 1) (a .seq .now)) (drop (h .used + a .values) (a .ml .now)) in (
+    let in-groups : l .last .0 ≡ set (h .groups) (h .calls) (a .start .group) = l .ensures .0 in
+    let in-places : l .last .1 .0 ≡ set (h .places) (h .calls) p = l .ensures .1 .0 in
+    let in-starts : l .last .1 .1 .0 ≡ set (h .starts) (h .calls) (h .used) = l .ensures .1 .1 in
+    let rest = readSpots (a .values) nowhere (ledBy 44 (upTo 59 (drop (h .at + 1 + length (f .result .now)) t)))
+    (trackedFrom (a .base) (p + 1) (a .seq .now)) (drop (h .used + a .values) (a .ml .now)) in (
       omega (arith, h .inv .0, turn-rest (a .values) nowhere t (h .at) low comma (f .result .now) (f .ensures) places (a .ml .now) (h .used)),
       turn-field (a .values) nowhere t (h .at) low comma (f .result .now) (f .ensures) places (a .ml .now) (h .used),
       omega (arith, w .1),
@@ -200,10 +221,13 @@ loop-again c =
       omega (arith, h .inv .6, c .before .count-above .ensures, above-used (a .ml .now) (h .used) (a .values)),
       h .inv .7
           ∙ ap (onDone (listedSpots (a .start .group) (columns (h .groups) (h .places) (h .starts)) (h .calls) (h .used)))
-          (turn-on (a .values) nowhere t (h .at) low comma (f .result .now) (f .ensures) places (a .ml .now) (h .used) p (trackedFrom (a .base) (p + 1) (a .seq .now)) (w .0))
-          ∙ list-one (a .start .group) (columns (h .groups) (h .places) (h .starts)) (h .calls) (h .used) (take (value (f .result .now)) places) p (take (a .values) (drop (h .used) (a .ml .now))) (a .values)
+          (turn-on (a .values) nowhere t (h .at) low comma (f .result .now) (f .ensures) places (a .ml .now) (h .used) p
+          (trackedFrom (a .base) (p + 1) (a .seq .now)) (w .0))
+          ∙ list-one (a .start .group) (columns (h .groups) (h .places) (h .starts)) (h .calls) (h .used) (take (value (f .result .now)) places) p
+          (take (a .values) (drop (h .used) (a .ml .now))) (a .values)
           (length-take-le (a .values) (drop (h .used) (a .ml .now)) (omega (arith, length-drop (h .used) (a .ml .now)))) rest
-          ∙ (λ j. onDone (listedSpots (a .start .group) (columns (sym (l .ensures .0) j) (sym (l .ensures .1 .0) j) (sym (l .ensures .1 .1) j)) (h .calls + 1) (h .used + a .values)) rest),
+          ∙ (λ j. onDone (listedSpots (a .start .group) (columns (sym in-groups j) (sym in-places j) (sym in-starts j))
+          (h .calls + 1) (h .used + a .values)) rest),
       l .kept .0 ∙ h .inv .8,
       l .kept .1 .0 ∙ h .inv .9,
       l .kept .1 .1 .0 ∙ h .inv .10,

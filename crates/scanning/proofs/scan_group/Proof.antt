@@ -21,12 +21,21 @@ use Rattle.scanning.proofs.scan_group.Tie as tie
 abbrev entries-at : (w : tie.After-scan-entries) → Cursor
 entries-at w =
     let s = w .before .before .before .before .before .before .before .before .before .before .before .before .before .before .before .args .start in
-    record { at = s .at + length (w .before .before .before .before .before .before .before .before .next-field .result .now); used = s .used; group = s .group + 1; calls = s .calls; above = s .above }
+    record {
+      at = s .at + length
+          (w .before .before .before .before .before .before .before .before .next-field .result .now);
+      used = s .used;
+      group = s .group + 1;
+      calls = s .calls;
+      above = s .above;
+    }
 
 abbrev spots-at : (w : tie.After-scan-entries) → Outcome (List Spot × List ℕ)
 spots-at w =
     let a = w .before .before .before .before .before .before .before .before .before .before .before .before .before .before .before .args in
-    readSpots (w .before .before .before .before .before .before .values-if .result) nowhere (ledBy 44 (upTo 59 (drop (a .start .at + length (w .before .before .before .before .before .before .before .before .next-field .result .now)) (a .text .now))))
+    readSpots (w .before .before .before .before .before .before .values-if .result) nowhere
+    (ledBy 44 (upTo 59 (drop (a .start .at + length (w .before .before .before .before .before .before .before .before .next-field .result .now))
+    (a .text .now))))
     (tracked (w .before .before .before .before .before .base-of .result) (a .seq .now)) (drop (a .start .used) (a .ml .now))
 
 -- what the entries' contract says of the answer r
@@ -38,14 +47,16 @@ entries : (w : tie.After-scan-entries) (r : Scan) → w .scan-entries .result �
 entries w r e =
     let a = w .before .before .before .before .before .before .before .before .before .before .before .before .before .before .before .args in
     let l = w .scan-entries .last .1 .1 .1 .1 .1 .1 in
-    subst (λ (x : Scan). EntriesScanned (a .text .now) (a .ml .now) (entries-at w) (spots-at w) (columns (a .groups .now) (a .places .now) (a .starts .now)) x
+    subst (λ (x : Scan). EntriesScanned (a .text .now) (a .ml .now) (entries-at w) (spots-at w)
+    (columns (a .groups .now) (a .places .now) (a .starts .now)) x
     (columns (l .0) (l .1 .0) (l .1 .1 .0))) e (w .scan-entries .ensures)
 
 -- where the group ends, counted from its header's end and from its start
 ends-together : (s : tie.After-next-field) →
     let a = s .before .before .before .before .before .before .before .args in
     let n = length (s .next-field .result .now) in
-    a .start .at + n + length (upTo 59 (drop (a .start .at + n) (a .text .now))) ≡ a .start .at + length (upTo 59 (drop (a .start .at) (a .text .now)))
+    a .start .at + n + length (upTo 59 (drop (a .start .at + n) (a .text .now))) ≡ a .start .at + length
+    (upTo 59 (drop (a .start .at) (a .text .now)))
 ends-together s =
     let a = s .before .before .before .before .before .before .before .args in
     omega (arith, rest-from (a .text .now) (a .start .at) (length (s .next-field .result .now)) (ap length (sym (s .next-field .ensures))))
@@ -56,7 +67,8 @@ next-field-requires c κs = search needs
 returns : tie.Need-returns
 returns c =
     let a = c .before .before .before .before .before .before .before .before .args in
-    group-short (a .has-ml) nowhere (a .seq .now) (a .text .now) (a .start .at) (c .before .next-field .result .now) (c .before .next-field .ensures) (drop (a .start .used) (a .ml .now)) (c .if1 .taken)
+    group-short (a .has-ml) nowhere (a .seq .now) (a .text .now) (a .start .at) (c .before .next-field .result .now) (c .before .next-field .ensures)
+    (drop (a .start .used) (a .ml .now)) (c .if1 .taken)
 
 values-if-requires : tie.Need-values-if-requires
 values-if-requires c κs = omega arith
@@ -75,8 +87,10 @@ scan-entries-requires c κs =
     let s = c .before .before .before .before .before .before .before in
     let a = s .before .before .before .before .before .before .before .args in
     let n = length (s .next-field .result .now) in
-    let e = ends-together s in
-    ((omega arith, omega arith, omega arith), (omega (arith, e), (field-from (a .text .now) (a .start .at) n (ap length (sym (s .next-field .ensures))), omega arith)))
+    let e = ends-together s in (
+      (omega arith, omega arith, omega arith),
+      (omega (arith, e), (field-from (a .text .now) (a .start .at) n (ap length (sym (s .next-field .ensures))), omega arith)),
+    )
 
 enum-known-scanned : tie.Need-enum-known-scanned
 enum-known-scanned c = search needs
@@ -103,14 +117,23 @@ returns-2 c =
     subst (λ (x : Scan). GroupScanned (a .text .now) (a .ml .now) (a .start)
     (readGroup (a .has-ml) nowhere (a .seq .now) (upTo 59 (drop (a .start .at) (a .text .now))) (drop (a .start .used) (a .ml .now)))
     (columns (a .groups .now) (a .places .now) (a .starts .now)) x (columns (l .0) (l .1 .0) (l .1 .1 .0))) (sym (g .1))
-    (group-refused (a .has-ml) (a .seq .now) (a .text .now) (a .start .at) (f .result .now) (f .ensures) (drop (a .start .used) (a .ml .now)) (w .before .before .before .before .before .before .before .if1 .left)
-    (w .before .before .before .before .before .before .values-if .result) (w .before .before .before .before .before .base-of .result) (w .before .before .before .before .before .before .values-if .ensures) (w .before .before .before .before .before .base-of .ensures) (g .0 .0) (entries w _ (g .1)))
+    (group-refused (a .has-ml) (a .seq .now) (a .text .now) (a .start .at) (f .result .now) (f .ensures) (drop (a .start .used) (a .ml .now))
+    (w .before .before .before .before .before .before .before .if1 .left)
+    (w .before .before .before .before .before .before .values-if .result) (w .before .before .before .before .before .base-of .result)
+    (w .before .before .before .before .before .before .values-if .ensures) (w .before .before .before .before .before .base-of .ensures) (g .0 .0)
+    (entries w _ (g .1)))
 
 add-t16 : tie.Need-add-t16
 add-t16 c =
     let w = c .before .before .before .before .before .before .before .before .before .before in
     let x = entries w _ (c .before .before .scanned .given .1) in
-    omega (arith, x .0, ends-together (w .before .before .before .before .before .before .before .before), w .before .before .before .before .before .before .before .before .before .before .before .before .before .before .before .pre)
+    omega (
+      arith,
+      x .0,
+      ends-together
+          (w .before .before .before .before .before .before .before .before),
+      w .before .before .before .before .before .before .before .before .before .before .before .before .before .before .before .pre,
+    )
 
 same-length-4 : tie.Need-same-length-4
 same-length-4 c = search needs
@@ -133,8 +156,11 @@ returns-3 c =
       x .2,
       omega (arith, x .3),
       x .4,
-      group-listed (a .has-ml) (a .seq .now) (a .text .now) (a .start .at) (f .result .now) (f .ensures) (drop (a .start .used) (a .ml .now)) (w .before .before .before .before .before .before .before .if1 .left)
-          (w .before .before .before .before .before .before .values-if .result) (w .before .before .before .before .before .base-of .result) (w .before .before .before .before .before .before .values-if .ensures) (w .before .before .before .before .before .base-of .ensures) (a .start .group + 1)
+      group-listed (a .has-ml) (a .seq .now) (a .text .now) (a .start .at) (f .result .now) (f .ensures) (drop (a .start .used) (a .ml .now))
+          (w .before .before .before .before .before .before .before .if1 .left)
+          (w .before .before .before .before .before .before .values-if .result) (w .before .before .before .before .before .base-of .result)
+          (w .before .before .before .before .before .before .values-if .ensures) (w .before .before .before .before .before .base-of .ensures)
+          (a .start .group + 1)
           (columns (a .groups .now) (a .places .now) (a .starts .now)) (a .start .calls) (a .start .used) ∙ x .5,
     )
 

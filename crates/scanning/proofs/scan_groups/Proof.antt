@@ -39,7 +39,8 @@ group : (w : tie.After-scan-group Inv-loop μ-loop) (r : Scan) → w .scan-group
     let a = w .before .before .before .before .before .before .before .before .before .before .before .before .before .args in
     let h = w .before .before .before .before .before .before .loop in
     let l = w .scan-group .last .1 .1 .1 .1 .1 in
-    GroupScanned (a .text .now) (a .ml .now) (h .c) (readGroup (a .has-ml) nowhere (a .seq .now) (upTo 59 (drop (h .c .at) (a .text .now))) (drop (h .c .used) (a .ml .now)))
+    GroupScanned (a .text .now) (a .ml .now) (h .c)
+    (readGroup (a .has-ml) nowhere (a .seq .now) (upTo 59 (drop (h .c .at) (a .text .now))) (drop (h .c .used) (a .ml .now)))
     (columns (h .groups) (h .places) (h .starts)) r (columns (l .0) (l .1 .0) (l .1 .1 .0))
 group w r e =
     let a = w .before .before .before .before .before .before .before .before .before .before .before .before .before .args in
@@ -49,7 +50,8 @@ group w r e =
     (readGroup (a .has-ml) nowhere (a .seq .now) (upTo 59 (drop (h .c .at) (a .text .now))) (drop (h .c .used) (a .ml .now)))
     (columns (h .groups) (h .places) (h .starts)) x (columns (l .0) (l .1 .0) (l .1 .1 .0))) e (w .scan-group .ensures)
 
-inside : (s : tie.Then1 Inv-loop μ-loop) → s .before .before .loop .c .at < length (s .before .before .before .before .before .before .before .before .before .args .text .now)
+inside : (s : tie.Then1 Inv-loop μ-loop) → s .before .before .loop .c .at < length
+    (s .before .before .before .before .before .before .before .before .before .args .text .now)
 inside s = omega arith
 
 loop-holds : tie.Need-loop-holds Inv-loop μ-loop
@@ -58,7 +60,8 @@ loop-holds c = (omega arith, omega arith, omega arith, omega arith, refl, refl, 
 scan-group-requires : tie.Need-scan-group-requires Inv-loop μ-loop
 scan-group-requires c κs =
     let s = c .before .before .before in
-    let far = ahead (s .before .before .before .before .before .before .before .before .before .args .text .now) (s .before .before .loop .c .at) (inside s) (s .before .before .before .before .before .before .before .before .before .pre .3) in
+    let far = ahead (s .before .before .before .before .before .before .before .before .before .args .text .now) (s .before .before .loop .c .at)
+    (inside s) (s .before .before .before .before .before .before .before .before .before .pre .3) in
     ((omega arith, omega arith, omega arith), (far, omega arith))
 
 enum-known-scanned : tie.Need-enum-known-scanned Inv-loop μ-loop
@@ -87,7 +90,9 @@ returns c =
     (columns (a .groups .now) (a .places .now) (a .starts .now)) x (columns (l .0) (l .1 .0) (l .1 .1 .0))) (sym (g .1))
     (on-done-refused _ _ _ (h .inv .5
     ∙ ap (onDone (finished (h .c .group) (columns (h .groups) (h .places) (h .starts)) (h .c .calls) (h .c .used)))
-    (groups-refused (a .has-ml) (a .seq .now) (a .text .now) (h .c .at) (inside (w .before .before .before .before)) (w .before .before .before .before .before .before .before .before .before .before .before .before .before .pre .3) (drop (h .c .used) (a .ml .now)) (g .0 .0) (group w _ (g .1)))))
+    (groups-refused (a .has-ml) (a .seq .now) (a .text .now) (h .c .at) (inside (w .before .before .before .before))
+    (w .before .before .before .before .before .before .before .before .before .before .before .before .before .pre .3)
+    (drop (h .c .used) (a .ml .now)) (g .0 .0) (group w _ (g .1)))))
 
 loop-less : tie.Need-loop-less Inv-loop μ-loop
 loop-less c =
@@ -101,14 +106,17 @@ loop-again c =
     let a = w .before .before .before .before .before .before .before .before .before .before .before .before .before .args in
     let h = w .before .before .before .before .before .before .loop in
     let x = group w _ (c .before .scanned .given .1) in
-    let far = ahead (a .text .now) (h .c .at) (inside (w .before .before .before .before)) (w .before .before .before .before .before .before .before .before .before .before .before .before .before .pre .3) in
+    let far = ahead (a .text .now) (h .c .at) (inside (w .before .before .before .before))
+    (w .before .before .before .before .before .before .before .before .before .before .before .before .before .pre .3) in
     let k = w .scan-group .kept .1 .1 .1 .1 .1 in (
       omega (arith, x .0, far),
       x .1,
       omega (arith, x .0, x .2, h .inv .2),
       x .3,
       x .4,
-      h .inv .5 ∙ groups-turn (a .has-ml) (a .seq .now) (a .text .now) (h .c .at) (inside (w .before .before .before .before)) (w .before .before .before .before .before .before .before .before .before .before .before .before .before .pre .3) (drop (h .c .used) (a .ml .now))
+      h .inv .5 ∙ groups-turn (a .has-ml) (a .seq .now) (a .text .now) (h .c .at) (inside (w .before .before .before .before))
+          (w .before .before .before .before .before .before .before .before .before .before .before .before .before .pre .3)
+          (drop (h .c .used) (a .ml .now))
           (h .c .group) (columns (h .groups) (h .places) (h .starts)) (h .c .calls) (h .c .used) _ _ _ _ (x .0) (x .2) (x .5),
       k .0 ∙ h .inv .6,
       k .1 .0 ∙ h .inv .7,

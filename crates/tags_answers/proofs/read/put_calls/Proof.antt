@@ -9,7 +9,8 @@ use Rattle.tags_answers.proofs.read.put_calls.Statement.{statement}
 use Rattle.tags_answers.proofs.read.put_calls.Tie as tie
 
 abbrev Inv-loop : tie.InvT-loop
-Inv-loop out₀ at calls groups places starts ml has-ml here next₀ i₀ out next i = (i ≤ here) × (here ≤ length groups) × (here ≤ length places) × (here ≤ length starts) × (next ≤ length out) × (length out ≡ length out₀)
+Inv-loop out₀ at calls groups places starts ml has-ml here next₀ i₀ out next i = (i ≤ here) × (here ≤ length groups) × (here ≤ length places) ×
+    (here ≤ length starts) × (next ≤ length out) × (length out ≡ length out₀)
 
 abbrev μ-loop : tie.MeasureT-loop
 μ-loop out₀ at calls groups places starts ml has-ml here next₀ i₀ out next i = here - i

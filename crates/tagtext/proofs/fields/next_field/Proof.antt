@@ -10,7 +10,8 @@ use Rattle.tagtext.specs.Fields.{fieldOf}
 use Rattle.tagtext.proofs.fields.next_field.Tie as tie
 
 abbrev Inv-loop : tie.InvT-loop
-Inv-loop text from end₀ end = (from ≤ end) × (end ≤ length text) × (length (fieldOf (drop from text)) ≡ (end - from) + length (fieldOf (drop end text)))
+Inv-loop text from end₀ end = (from ≤ end) × (end ≤ length text) ×
+    (length (fieldOf (drop from text)) ≡ (end - from) + length (fieldOf (drop end text)))
 
 abbrev μ-loop : tie.MeasureT-loop
 μ-loop text from end₀ end = length text - end
@@ -34,7 +35,8 @@ returns : tie.Need-returns Inv-loop μ-loop
 returns c =
     let h = c .before .before .before .before in
     let a = h .before .args in
-    field-part (drop (a .from) (a .text .now)) (h .loop .end - a .from) (omega (arith, field-comma (a .text .now) (h .loop .end) (omega arith) (c .before .if1 .taken)))
+    field-part (drop (a .from) (a .text .now)) (h .loop .end - a .from)
+    (omega (arith, field-comma (a .text .now) (h .loop .end) (omega arith) (omega arith)))
 
 shared-slice-read-if2 : tie.Need-shared-slice-read-if2 Inv-loop μ-loop
 shared-slice-read-if2 c = omega arith
@@ -52,7 +54,8 @@ returns-2 : tie.Need-returns-2 Inv-loop μ-loop
 returns-2 c =
     let h = c .before .before .before .before .before .before in
     let a = h .before .args in
-    field-part (drop (a .from) (a .text .now)) (h .loop .end - a .from) (omega (arith, field-semicolon (a .text .now) (h .loop .end) (omega arith) (c .before .if2 .taken)))
+    field-part (drop (a .from) (a .text .now)) (h .loop .end - a .from)
+    (omega (arith, field-semicolon (a .text .now) (h .loop .end) (omega arith) (omega arith)))
 
 add-end : tie.Need-add-end Inv-loop μ-loop
 add-end c = omega arith

@@ -30,7 +30,8 @@ is-digit-requires c κs = search needs
 returns : tie.Need-returns Inv-loop μ-loop
 returns c =
     let h = c .before .before .before .before .loop in
-    sym (h .inv .1 ∙ every-stop isDigit (c .before .before .before .before .before .before .args .codes .now) (h .i) 0 (omega arith) (sym (c .before .is-digit .ensures) ∙ not-true _ (c .if1 .taken)))
+    sym (h .inv .1 ∙ every-stop isDigit (c .before .before .before .before .before .before .args .codes .now) (h .i) 0 (omega arith)
+    (sym (c .before .is-digit .ensures) ∙ not-true _ (c .if1 .taken)))
 
 add-i : tie.Need-add-i Inv-loop μ-loop
 add-i c = omega arith
@@ -40,8 +41,11 @@ loop-less c = omega arith
 
 loop-again : tie.Need-loop-again Inv-loop μ-loop
 loop-again c =
-    let h = c .before .before .before .before .loop in
-    (omega arith, h .inv .1 ∙ every-on isDigit (c .before .before .before .before .before .before .args .codes .now) (h .i) 0 (omega arith) (sym (c .before .is-digit .ensures) ∙ not-false _ (c .if1 .left)))
+    let h = c .before .before .before .before .loop in (
+      omega arith,
+      h .inv .1 ∙ every-on isDigit (c .before .before .before .before .before .before .args .codes .now) (h .i) 0 (omega arith)
+          (sym (c .before .is-digit .ensures) ∙ not-false _ (c .if1 .left)),
+    )
 
 returns-2 : tie.Need-returns-2 Inv-loop μ-loop
 returns-2 c =

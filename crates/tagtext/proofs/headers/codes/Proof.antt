@@ -46,7 +46,8 @@ returns : tie.Need-returns Inv-loop μ-loop
 returns c =
     let h = c .before .before .before .before .before in
     let l = h .before .before .args .header .now in
-    sym (h .loop .inv .2 ∙ part-code l (h .loop .end) (omega arith) (omega arith) (sym (c .before .before .is-mark .ensures) ∙ not-true _ (c .before .if1 .taken)))
+    sym (h .loop .inv .2 ∙ part-code l (h .loop .end) (omega arith) (omega arith)
+    (sym (c .before .before .is-mark .ensures) ∙ not-true _ (c .before .if1 .taken)))
 
 sub-end : tie.Need-sub-end Inv-loop μ-loop
 sub-end c = omega arith
@@ -57,8 +58,12 @@ loop-less c = omega arith
 loop-again : tie.Need-loop-again Inv-loop μ-loop
 loop-again c =
     let h = c .before .before .before .before in
-    let l = h .before .before .args .header .now in
-    (omega arith, omega arith, h .loop .inv .2 ∙ part-mark l (h .loop .end) (omega arith) (omega arith) (sym (c .before .is-mark .ensures) ∙ not-false _ (c .if1 .left)))
+    let l = h .before .before .args .header .now in (
+      omega arith,
+      omega arith,
+      h .loop .inv .2 ∙ part-mark l (h .loop .end) (omega arith) (omega arith)
+          (sym (c .before .is-mark .ensures) ∙ not-false _ (c .if1 .left)),
+    )
 
 sub-result-2 : tie.Need-sub-result-2 Inv-loop μ-loop
 sub-result-2 c = omega arith

@@ -14,7 +14,8 @@ use Rattle.tagtext.proofs.numbers.read_skip.Statement.{statement}
 use Rattle.tagtext.proofs.numbers.read_skip.Tie as tie
 
 abbrev Inv-loop : tie.InvT-loop
-Inv-loop field most n₀ i₀ n i = (i ≤ length field) × (n ≤ most) × (min most (value field) ≡ min most (valueFrom n (drop i field))) × (isNumber field ≡ every isDigit (drop i field))
+Inv-loop field most n₀ i₀ n i = (i ≤ length field) × (n ≤ most) × (min most (value field) ≡ min most (valueFrom n (drop i field))) ×
+    (isNumber field ≡ every isDigit (drop i field))
 
 abbrev μ-loop : tie.MeasureT-loop
 μ-loop field most n₀ i₀ n i = length field - i
@@ -32,12 +33,14 @@ shared-slice-read-digit c = omega arith
 returns-2 : tie.Need-returns-2 Inv-loop μ-loop
 returns-2 c =
     let h = c .before .before .before .loop in
-    rw (h .inv .3 ∙ every-stop isDigit (c .before .before .before .before .before .before .args .field .now) (h .i) 0 (omega arith) (digit-low _ (omega arith)))
+    rw (h .inv .3 ∙ every-stop isDigit (c .before .before .before .before .before .before .args .field .now) (h .i) 0 (omega arith)
+    (digit-low _ (omega arith)))
 
 returns-3 : tie.Need-returns-3 Inv-loop μ-loop
 returns-3 c =
     let h = c .before .before .before .before .loop in
-    rw (h .inv .3 ∙ every-stop isDigit (c .before .before .before .before .before .before .before .args .field .now) (h .i) 0 (omega arith) (digit-high _ (omega arith)))
+    rw (h .inv .3 ∙ every-stop isDigit (c .before .before .before .before .before .before .before .args .field .now) (h .i) 0 (omega arith)
+    (digit-high _ (omega arith)))
 
 with-digit-requires : tie.Need-with-digit-requires Inv-loop μ-loop
 with-digit-requires c κs = omega arith
@@ -55,7 +58,8 @@ loop-again c =
     let most = c .before .before .before .before .before .before .before .before .args .most in (
       omega arith,
       omega arith,
-      h .inv .2 ∙ rw (value-on l (h .i) (h .n) (omega arith)) (bounded most (10 * h .n + (getD l (h .i) 0 - 48)) (c .with-digit .result) (drop (h .i + 1) l) (omega arith)),
+      h .inv .2 ∙ rw (value-on l (h .i) (h .n) (omega arith))
+          (bounded most (10 * h .n + (getD l (h .i) 0 - 48)) (c .with-digit .result) (drop (h .i + 1) l) (omega arith)),
       h .inv .3 ∙ every-on isDigit l (h .i) 0 (omega arith) (digit-is _ (omega arith) (omega arith)),
     )
 

@@ -35,7 +35,8 @@ returns : tie.Need-returns Inv-loop μ-loop
 returns c =
     let h = c .before .before .before .before .before .before .before .before .loop in
     let a = c .before .before .before .before .before .before .before .before .before .before .args in
-    sym (ap firstOf (h .inv .3 ∙ found-at (a .base) (a .seq .now) (h .pos .0) (a .skip .0 - h .ordinal .0) (omega arith) (sym (c .before .before .before .before .counts .ensures) ∙ c .before .before .before .if2 .taken) (omega arith)))
+    sym (ap firstOf (h .inv .3 ∙ found-at (a .base) (a .seq .now) (h .pos .0) (a .skip .0 - h .ordinal .0) (omega arith)
+    (sym (c .before .before .before .before .counts .ensures) ∙ c .before .before .before .if2 .taken) (omega arith)))
 
 add-t14 : tie.Need-add-t14 Inv-loop μ-loop
 add-t14 c = omega arith
@@ -57,9 +58,16 @@ loop-again c =
       omega arith,
       omega (arith, w .3 .left),
       omega arith,
-      h .inv .3 ∙ found-on (a .base) (a .seq .now) i n (a .skip .0 - (h .ordinal .0 + 1)) (omega arith) (sym (c .before .counts .ensures) ∙ w .0 .taken) (omega (arith, w .3 .left)),
+      h .inv .3 ∙ found-on (a .base) (a .seq .now) i n (a .skip .0 - (h .ordinal .0 + 1)) (omega arith)
+          (sym (c .before .counts .ensures) ∙ w .0 .taken) (omega (arith, w .3 .left)),
     ))
-    (λ w. rw (w .1) (omega arith, omega arith, omega arith, h .inv .3 ∙ found-miss (a .base) (a .seq .now) i n (omega arith) (sym (c .before .counts .ensures) ∙ w .0 .left)))
+    (λ w. rw (w .1) (
+      omega arith,
+      omega arith,
+      omega arith,
+      h .inv .3 ∙ found-miss (a .base) (a .seq .now) i n (omega arith)
+          (sym (c .before .counts .ensures) ∙ w .0 .left),
+    ))
     (c .if2 .came)
 
 returns-2 : tie.Need-returns-2 Inv-loop μ-loop
