@@ -1,14 +1,13 @@
--- The element at a place of a reversed list, and one element more of a list that a loop maps.
+-- The element at a place of a reversed list.
 -- Assumes nothing.
-use mathlib.Core.Path.{_≡_, refl, _∙_}
+use mathlib.Core.Path.{_≡_, _∙_}
 use mathlib.Core.Logic.{⊎-elim}
-use mathlib.Core.List.{List, [], _∷_, _++_, map, reverse, reverse-cons}
-use Prim.Native.Nat.{ℕ, suc, _+_, _-_, _≤_, _<_}
+use mathlib.Core.List.{List, [], _∷_, _++_, reverse, reverse-cons}
+use Prim.Native.Nat.{ℕ, suc, _-_, _≤_, _<_}
 use native.Mathlib.Nat.{not-suc-le-zero}
-use native.Mathlib.Numerals.{add-one}
 use native.Mathlib.Omega.{arith}
-use lib.ListN.{length, getD, take, length-reverse, List·getD-append}
-use lib.Seq.{take-suc, getD-at}
+use lib.ListN.{length, getD, length-reverse, List·getD-append}
+use lib.Seq.{getD-at}
 use Rattle.lent.proofs.Numbers.{le-or-lt}
 
 pub getD-reverse : {A : Type 0} (l : List A) (i : ℕ) (d : A) → i < length l → getD (reverse l) i d ≡ getD l (length l - i - 1) d
@@ -28,11 +27,3 @@ getD-reverse {A} (x ∷ xs) i d h =
         let s : suc (length xs) - i - 1 ≡ suc (length xs - i - 1) = omega arith in
         let n : i < length (reverse xs) = omega (arith, length-reverse xs) in
         rw s (List·getD-append (reverse xs) (x ∷ []) d i n ∙ rest)
-
-pub map-append : {A B : Type 0} (f : A → B) (xs ys : List A) → map f (xs ++ ys) ≡ map f xs ++ map f ys
-map-append f [] ys = refl
-map-append f (x ∷ xs) ys = rw (map-append f xs ys)
-
-pub map-more : {A B : Type 0} (f : A → B) (l : List A) (i : ℕ) (d : A) → i < length l
-    → map f (take (i + 1) l) ≡ map f (take i l) ++ (f (getD l i d) ∷ [])
-map-more f l i d h = rw (add-one, take-suc l i d h) (map-append f (take i l) (getD l i d ∷ []))

@@ -10,7 +10,6 @@ use Rattle.lent.specs.Outcome.{Outcome, done, says}
 use Rattle.lent.specs.declared.Refusal.{Refusal}
 use Rattle.lent.specs.declared.Written.{Written}
 use Rattle.lent.specs.declared.Written.the-variants.{Done, Refused}
-use denote.Index.{row}
 
 -- an answer that was Done is what the outcome was
 pub said-done : (w : Written) (o : Outcome ℕ) (n : ℕ) → says w ≡ o → w ≡ Done n → o ≡ done n

@@ -14,7 +14,6 @@ use Rattle.lent.specs.declared.Written.{Written}
 use Rattle.pattern.specs.declared.ConversionPattern.{ConversionPattern}
 use Rattle.rows.specs.Columns.{gatedCounts, asYes, asTagCounts, restored, columnsOf, restorable, truncated, countsInRoom}
 use Rattle.rows.specs.Reads.{informativeColumn, unconvertedColumn, convertedColumn, readsOf, annotated}
-use denote.Index.{row}
 
 -- an answer with what it says, and a row with what it is left as
 same-answer : {o : Outcome ℕ} (r s : Written) → says r ≡ o → says s ≡ o → r ≡ s

@@ -13,7 +13,6 @@ use Rattle.lent.specs.Filled.{leaves}
 use Rattle.evidence.specs.Position.{gated}
 use Rattle.evidence.specs.Row.{gatedRow, rowOf, recordsToGate}
 use Rattle.evidence.specs.declared.MethylationEvidence.{MethylationEvidence}
-use denote.Index.{row}
 
 -- the first k records gated
 abbrev pub gatedUpTo : ℕ → List MethylationEvidence → List MethylationEvidence

@@ -14,7 +14,6 @@ use Rattle.pattern.specs.declared.ConversionPattern.{ConversionPattern}
 use Rattle.evidence.specs.Position.{fresh, counted, gated}
 use Rattle.evidence.specs.Row.{gatedRow, rowOf}
 use Rattle.evidence.specs.declared.MethylationEvidence.{MethylationEvidence}
-use denote.Index.{row}
 
 pub new-unique : (informative? : Bool) (r s : MethylationEvidence) → r ≡ fresh informative? → s ≡ fresh informative? → r ≡ s
 new-unique informative? r s = settled r s

@@ -2,13 +2,13 @@
 -- Assumes nothing.
 use mathlib.Core.Path.{_≡_, refl, sym, ap, _∙_}
 use mathlib.Core.Bool.{Bool, true, false, not, _&&_, _||_}
-use mathlib.Core.List.{List, [], _∷_, _++_, map, append-assoc}
+use mathlib.Core.List.{List, [], _∷_, _++_, map, append-assoc, map-append}
 use Prim.Native.Nat.{ℕ, zero, suc, _+_, _-_, _≤_, _<_}
 use native.Mathlib.Nat.{suc-ne-zero}
 use native.Mathlib.Numerals.{add-one}
 use native.Mathlib.Omega.{arith}
 use lib.ListN.{length, getD, take, drop, drop-of-length-le}
-use lib.Seq.{drop-cons, take-nil}
+use lib.Seq.{drop-cons, take-nil, take-suc}
 use Rattle.lent.specs.Lists.{every, any, filter, lastOr, concatMap}
 use Rattle.lent.proofs.Tests.{by-test, and-true, and-true-l, and-true-r}
 
@@ -154,6 +154,10 @@ module _ {A B : Type 0} where
   pub map-ext : (f g : A → B) → ((x : A) → f x ≡ g x) → (xs : List A) → map f xs ≡ map g xs
   map-ext f g h [] = refl
   map-ext f g h (x ∷ xs) = rw (h x, map-ext f g h xs)
+
+  -- one element more of a list that a loop maps
+  pub map-more : (f : A → B) (l : List A) (i : ℕ) (d : A) → i < length l → map f (take (i + 1) l) ≡ map f (take i l) ++ (f (getD l i d) ∷ [])
+  map-more f l i d h = rw (add-one, take-suc l i d h) (map-append f (take i l) (getD l i d ∷ []))
 
   -- two functions that agree on what passes the test
   pub map-kept : (t : A → Bool) (f g : A → B) → ((x : A) → t x ≡ true → f x ≡ g x) → (xs : List A) → map f (filter t xs) ≡ map g (filter t xs)

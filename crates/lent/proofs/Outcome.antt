@@ -32,6 +32,10 @@ module _ {A B : Type 0} where
   with-first-inv [] n f b e = let z : _≡_ {A = ℕ} 0 1 = cc in absurd (omega arith)
   with-first-inv (x ∷ xs) n f b e = (x, xs, refl, e)
 
+  pub on-done-inv : (f : A → B) (o : Outcome A) (b : B) → onDone f o ≡ done b → (a : A) × (o ≡ done a) × (f a ≡ b)
+  on-done-inv f (refused r) b e = let z : _≡_ {A = ℕ} 0 1 = cc in absurd (omega arith)
+  on-done-inv f (done a) b e = (a, refl, done-inj e)
+
   pub on-done-refused : (f : A → B) (o : Outcome A) (r : Refusal) → onDone f o ≡ refused r → o ≡ refused r
   on-done-refused f (refused q) r e = let s : q ≡ r = cc in rw s
   on-done-refused f (done a) r e = let z : _≡_ {A = ℕ} 0 1 = cc in absurd (omega arith)

@@ -13,7 +13,6 @@ use Rattle.lent.proofs.Outcome.{and-then-inv, done-inj, need-rest}
 use Rattle.lent.proofs.Tests.{and-true, and-true-l, and-true-r, by-test}
 use Rattle.lent.specs.Lists.{every}
 use Rattle.lent.specs.Outcome.{done}
-use Rattle.samtags.proofs.Examples.{cs}
 use Rattle.samtags.proofs.Read.{GroupsRead, a-group, no-group, spots-at, tag-read}
 use Rattle.samtags.specs.Bytes.{comma}
 use Rattle.samtags.specs.Reading.{Row, callList, inDomain, lists, nowhere, read, readTag, rowsFrom, rowsOf, valuesIn}

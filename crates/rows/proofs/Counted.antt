@@ -22,7 +22,6 @@ use Rattle.evidence.specs.declared.MethylationEvidence.{MethylationEvidence}
 use Rattle.rows.proofs.Tabulate.{length-tabulate, getD-tabulate, tabulate-ext, changed-is-tabulate, changed-idle}
 use Rattle.rows.specs.Counting.{countedThere, countAfter, addRead, addReads}
 use Rattle.rows.specs.Reads.{Read, isYes, yesByte, informativeAt, countsAt, basesAt, howMany, informativeColumn, countColumn}
-use denote.Index.{row}
 
 pub yes-byte-yes : (t : Bool) → isYes (yesByte t) ≡ t
 yes-byte-yes true = refl

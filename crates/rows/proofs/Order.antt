@@ -20,7 +20,6 @@ use Rattle.evidence.specs.Position.{capped}
 use Rattle.rows.proofs.Counted.{how-many-more}
 use Rattle.rows.proofs.Tabulate.{tabulate-ext}
 use Rattle.rows.specs.Reads.{Read, informativeAt, countsAt, basesAt, howMany, countColumn}
-use denote.Index.{row}
 
 -- how many of the reads that count at a position show the base there
 module _ (base : ℕ) (all? inf? : Bool) (i : ℕ) where

@@ -1,19 +1,19 @@
 -- Laws of tabulated lists, and of rows that are filled or changed from the left: what each loop over the columns keeps and comes to.
 -- Assumes nothing.
-use mathlib.Core.Path.{_≡_, refl, ap, _∙_}
+use mathlib.Core.Path.{_≡_, refl, sym, ap, _∙_}
 use Prim.Native.Nat.{ℕ, zero, suc, _+_, _-_, _≤_, _<_}
 use native.Mathlib.Nat.{le-of-suc-le-suc, not-suc-le-zero}
 use native.Mathlib.Numerals.{add-one}
 use native.Mathlib.Omega.{arith}
-use mathlib.Core.List.{List, [], _∷_, _++_, map}
+use mathlib.Core.List.{List, [], _∷_, map}
 use lib.ListN.{length, getD, take, drop, set, length-map}
-use lib.Seq.{take-suc, length-take-le}
+use lib.Seq.{length-take-le}
 use borrow.Rule.Slice.PartMut.{putMid}
 use Rattle.lent.proofs.Filled.{over-one-more}
+use Rattle.lent.proofs.Lists.{map-more}
 use Rattle.lent.proofs.InPlace.{changedFrom, changedUpTo, changed-not-yet, changed-more}
 use Rattle.lent.specs.Filled.{over}
 use Rattle.lent.specs.Lists.{tabulateFrom, tabulate, zipWith}
-use denote.Index.{row}
 
 module _ {A : Type 0} where
   -- ---- tabulate
@@ -115,14 +115,7 @@ module _ {A B : Type 0} where
       → set (over (map g (take i from)) out) i (g (getD from i d)) ≡ over (map g (take (i + 1) from)) out
   over-map-more g from out i d h l =
       let n : length (map g (take i from)) ≡ i = length-map (take i from) g ∙ length-take-le i from (omega arith) in
-      over-one-more (map g (take i from)) out i (g (getD from i d)) n l ∙ ap (λ (m : List B). over m out) grown
-    where
-      map-snoc : (xs : List A) (x : A) → map g xs ++ (g x ∷ []) ≡ map g (xs ++ (x ∷ []))
-      map-snoc [] x = refl
-      map-snoc (y ∷ xs) x = ap (λ (r : List B). g y ∷ r) (map-snoc xs x)
-
-      grown : map g (take i from) ++ (g (getD from i d) ∷ []) ≡ map g (take (i + 1) from)
-      grown = rw (add-one i, take-suc from i d h) (map-snoc (take i from) (getD from i d))
+      over-one-more (map g (take i from)) out i (g (getD from i d)) n l ∙ ap (λ (m : List B). over m out) (sym (map-more g from i d h))
 
 module _ {A B C : Type 0} where
   pub length-zip : (f : A → B → C) (xs : List A) (ys : List B) → length xs ≡ length ys → length (zipWith f xs ys) ≡ length ys

@@ -14,9 +14,9 @@ use borrow.Author.Needs.{needs}
 use borrow.Author.Tests.{le-leb, lt-leb}
 use Rattle.lent.specs.Outcome.{refusal}
 use Rattle.lent.specs.Filled.{over}
+use Rattle.lent.proofs.Lists.{map-more}
 use Rattle.lent.proofs.Filled.{over-none, over-one-more, leaves-done, leaves-refused}
 use Rattle.alignment.specs.Reference.{baseAt}
-use Rattle.alignment.proofs.ListLaws.{map-more}
 use Rattle.alignment.proofs.fetch_ref_bases_at_positions.Statement.{statement}
 use Rattle.alignment.proofs.fetch_ref_bases_at_positions.Tie as tie
 

@@ -1,0 +1,108 @@
+-- What the code promises of meaning, from its contracts: a tag that `check_tag` accepts and that `read_calls` lists says what SAMtags says, a tag that
+-- SAMtags gives a meaning is accepted with exactly its calls, and `tally` counts the values of the calls.
+-- Assumes nothing.
+use mathlib.Core.Path.{_≡_, ap, sym, _∙_}
+use Prim.Native.Nat.{ℕ, _+_}
+use mathlib.Core.Bool.{Bool, true, cond, _&&_}
+use mathlib.Core.List.{List, [], _∷_, map}
+use lib.Dec.{leb}
+use lib.ListN.{length}
+use Rattle.lent.proofs.Filled.{leaves-done}
+use Rattle.lent.proofs.Outcome.{and-then-inv, done-inj, need-rest, on-done-inv}
+use Rattle.lent.specs.Filled.{leaves, over}
+use Rattle.lent.specs.Lists.{every}
+use Rattle.lent.specs.Outcome.{Outcome, done, onDone}
+use Rattle.samtags.proofs.MeantIsRead.{listingsOf, meant-is-accepted, noneOnU}
+use Rattle.samtags.proofs.Names.{upperCase}
+use Rattle.samtags.proofs.ReadMeans.{Read-means, noU, reading-means}
+use Rattle.samtags.proofs.Tally.{allCalls, tallyCalls, tally-counts-all, tally-is-a-fold}
+use Rattle.samtags.specs.Reading.{Tally, callList, inDomain, lists, readTag, tallyOf, tallyTag}
+use Rattle.samtags.specs.Samtags.{Spelled, TagMeans, isSpelling, meaningOf, pieceOf, spelled}
+use Rattle.samtags.specs.Spots.{Call, Listing}
+use Rattle.reading.specs.Answers.{readingSays, tallySays}
+use Rattle.reading.specs.Calls.{CallsRead, callsRead, countsOf, groupColumn, listedCalls, placeColumn, readCalls, startColumn}
+use Rattle.reading.specs.declared.Reading.{Reading}
+use Rattle.reading.specs.declared.Reading.the-variants as reading
+use Rattle.reading.specs.declared.Tallied.the-variants as tallied
+use Rattle.reading.proofs.Rising.{call-list-rises, comesBefore, rising}
+
+left : (column : List Listing → List ℕ) (o : Outcome (List Listing)) (ls : List Listing) (row : List ℕ) → o ≡ done ls
+    → leaves column o row ≡ over (column ls) row
+left column o ls row e = rw e (leaves-done column ls row)
+
+-- ---- a tag that is accepted
+
+-- These are its listings: as many groups and calls as were answered, in rising order, and what SAMtags says of the text on an upper-case SEQ with no
+-- group on U.
+pub record Accepted (ml? : Bool) (seq text ml : List ℕ) (groups calls : ℕ) (ls : List Listing) : Type 0 where
+  pub read : readTag ml? seq text ml ≡ done ls
+  pub counts : _≡_ {A = ℕ × ℕ} (countsOf ls) (groups, calls)
+  pub rises : rising comesBefore (callList ls) ≡ true
+  pub means : upperCase seq ≡ true → noU ls ≡ true → Read-means ml? seq text ml ls
+
+module _ (ml? : Bool) (seq text ml : List ℕ) (groups calls : ℕ) where
+  accepted : (ls : List Listing) → readTag ml? seq text ml ≡ done ls → _≡_ {A = ℕ × ℕ} (countsOf ls) (groups, calls)
+      → Accepted ml? seq text ml groups calls ls
+  unfolding readTag
+  accepted ls e counted =
+      record {
+        read = e;
+        counts = counted;
+        rises = call-list-rises ml? seq text ml ls e;
+        means = reading-means ml? seq text ml ls (need-rest (inDomain ml? seq text ml) 1 (lists ml? seq text ml) ls e);
+      }
+
+  -- `check_tag` answered Done
+  pub check-tag-means : readingSays (reading.Done groups calls) ≡ onDone countsOf (readTag ml? seq text ml)
+      → (ls : List Listing) × Accepted ml? seq text ml groups calls ls
+  check-tag-means e =
+      let i = on-done-inv countsOf (readTag ml? seq text ml) (groups, calls) (sym e) in
+      (i .0, accepted (i .0) (i .1) (i .2))
+
+  -- `read_calls` answered Done, and left these columns
+  pub read-calls-mean : (gs ps ss gs′ ps′ ss′ : List ℕ)
+      → callsRead (readingSays (reading.Done groups calls)) gs′ ps′ ss′ ≡ readCalls ml? seq text ml gs ps ss
+      → (ls : List Listing) × Accepted ml? seq text ml groups calls ls
+      × (gs′ ≡ over (groupColumn ls) gs) × (ps′ ≡ over (placeColumn ls) ps) × (ss′ ≡ over (startColumn ls) ss)
+  unfolding readCalls listedCalls
+  read-calls-mean gs ps ss gs′ ps′ ss′ e =
+      let o = listedCalls ml? seq text ml (length gs) (length ps) (length ss) in
+      let i = on-done-inv countsOf o (groups, calls) (sym (ap (λ (c : CallsRead). c .answer) e)) in
+      let n : List Listing → ℕ = λ ls. length (callList ls) in
+      let room : List Listing → Bool = λ ls. leb (n ls) (length gs) && leb (n ls) (length ps) && leb (n ls) (length ss) in
+      let j = and-then-inv (readTag ml? seq text ml) _ (i .0) (i .1) in
+      let same : j .0 ≡ i .0 = done-inj (need-rest (room (j .0)) 12 (done (j .0)) (i .0) (j .2)) in (
+        i .0,
+        accepted (i .0) (j .1 ∙ ap done same) (i .2),
+        ap (λ (c : CallsRead). c .groups) e ∙ left groupColumn o (i .0) gs (i .1),
+        ap (λ (c : CallsRead). c .places) e ∙ left placeColumn o (i .0) ps (i .1),
+        ap (λ (c : CallsRead). c .starts) e ∙ left startColumn o (i .0) ss (i .1),
+      )
+
+-- ---- a tag that SAMtags gives a meaning
+
+-- Spelled as SAMtags says, none on U, within the domain: `check_tag` answers with the groups and the calls that it means.
+pub check-tag-accepts : (ml? : Bool) (seq : List ℕ) (s : Spelled) (ss : List Spelled) (ml : List ℕ) (css : List (List Call)) (r : Reading)
+    → every isSpelling (s ∷ ss) ≡ true → noneOnU (s ∷ ss) ≡ true → upperCase seq ≡ true
+    → TagMeans seq (cond ml? ml []) (map (meaningOf ml?) (s ∷ ss)) css → inDomain ml? seq (spelled (map pieceOf (s ∷ ss))) ml ≡ true
+    → readingSays r ≡ onDone countsOf (readTag ml? seq (spelled (map pieceOf (s ∷ ss))) ml)
+    → readingSays r ≡ done (countsOf (listingsOf (s ∷ ss) css))
+check-tag-accepts ml? seq s ss ml css r ok none upper means within e =
+    e ∙ ap (onDone countsOf) (meant-is-accepted ml? seq s ss ml css ok none upper means within)
+
+-- ---- the tally
+
+-- `tally` answered Done: a fold over the calls that are read, and no value is invented
+pub tally-means : (seq text ml : List ℕ) (above below : ℕ) → tallySays (tallied.Done above below) ≡ tallyTag seq text ml
+    → (ls : List Listing) × (readTag true seq text ml ≡ done ls)
+    × (_≡_ {A = Tally} (record { above = above; below = below }) (tallyCalls (allCalls ls))) × (above + below ≡ length ml)
+unfolding tallyTag readTag
+tally-means seq text ml above below e =
+    let i = and-then-inv (readTag true seq text ml) _ (record { above = above; below = below }) (sym e) in
+    let counted : _≡_ {A = Tally} (record { above = above; below = below }) (tallyOf ml) = sym (done-inj (i .2)) in
+    let read = need-rest (inDomain true seq text ml) 1 (lists true seq text ml) (i .0) (i .1) in (
+      i .0,
+      i .1,
+      counted ∙ tally-is-a-fold seq text ml (i .0) read,
+      ap (λ (t : Tally). t .above + t .below) counted ∙ tally-counts-all ml,
+    )
