@@ -13,10 +13,10 @@ use Rattle.lent.specs.Lists.{every}
 use Rattle.lent.specs.Outcome.{Outcome, done, need}
 use Rattle.lent.proofs.Outcome.{done-inj, need-test, need-rest}
 use Rattle.lent.proofs.Tests.{and-true-l, and-true-r}
-use Rattle.alignment.specs.Cigar.{isKnown, placesTaken, queryLength, referenceSpan, isStart, startOf, checked}
-use Rattle.alignment.specs.Walk.{outset, Reaches}
-use Rattle.alignment.proofs.Signed.{start-small}
-use Rattle.alignment.proofs.Totals.{places-at-most, total-at-most}
+use Rattle.cigar.specs.Cigar.{isKnown, placesTaken, queryLength, referenceSpan, isStart, startOf, checked}
+use Rattle.walking.specs.Walk.{outset, Reaches}
+use Rattle.cigar.proofs.Signed.{start-small}
+use Rattle.cigar.proofs.Totals.{places-at-most, total-at-most}
 
 module _ (words : List ℕ) (start : ℤ) (n : ℕ) (e : checked words start ≡ done n) where
   sizes : Outcome ℕ

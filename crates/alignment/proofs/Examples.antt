@@ -7,7 +7,7 @@ use Prim.Native.Nat.{ℕ}
 use lib.IntN.{pos, negsuc}
 use Rattle.lent.specs.Outcome.{done, refuse}
 use Rattle.pattern.specs.Case.{sameInAnyCase}
-use Rattle.alignment.specs.Cigar.{missing, readPlaces, queryPlaces}
+use Rattle.cigar.specs.Cigar.{missing, readPlaces, queryPlaces}
 use Rattle.alignment.specs.Reference.{isCpg, fetchedBases}
 
 -- 2S3M1D2M

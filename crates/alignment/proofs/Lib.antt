@@ -1,8 +1,3 @@
-pub mod ListLaws
-pub mod Among
-pub mod Signed
-pub mod Totals
-pub mod Walks
 pub mod Checked
 pub mod Mirror
 pub mod Rising

@@ -8,11 +8,11 @@ use native.Mathlib.Omega.{arith}
 use lib.IntN.{ℤ, pos}
 use lib.ListN.{length, replicate, length-append, replicate-append-replicate}
 use Rattle.lent.proofs.Tests.{by-test}
-use Rattle.alignment.specs.Cigar.{kindOf, lengthOf, takesBases, takesPlaces, basesTaken, placesTaken, queryLength, referenceSpan}
-use Rattle.alignment.specs.Cigar.{missing, upFrom, downFrom, placed, forward, backward, readPlaces}
-use Rattle.alignment.specs.Walk.{inOrder, outset, walked}
-use Rattle.alignment.proofs.Totals.{total-reverse}
-use Rattle.alignment.proofs.Walks.{length-placed, up-more}
+use Rattle.cigar.specs.Cigar.{kindOf, lengthOf, takesBases, takesPlaces, basesTaken, placesTaken, queryLength, referenceSpan}
+use Rattle.cigar.specs.Cigar.{missing, upFrom, downFrom, placed, forward, backward, readPlaces}
+use Rattle.walking.specs.Walk.{inOrder, outset, walked}
+use Rattle.cigar.proofs.Totals.{total-reverse}
+use Rattle.walking.proofs.Walks.{length-placed, up-more}
 
 -- ---- one operation
 
@@ -82,7 +82,7 @@ pub length-read-places : (reversed : Bool) (words : List ℕ) (start : ℕ) → 
 length-read-places false words start = length-walked false start words
 length-read-places true words start = length-walked true (start + referenceSpan words) (reverse words) ∙ total-reverse basesTaken words
 
--- the walk of the private functions is the definition's
+-- the walk of `walking`, with its direction as a parameter, is the definition's
 pub read-is-walked : (reversed : Bool) (words : List ℕ) (start : ℕ)
     → readPlaces reversed words start ≡ walked reversed (outset reversed words start) (inOrder reversed words)
 read-is-walked false words start = refl

@@ -11,9 +11,9 @@ use lib.IntN.{ℤ, pos, negsuc, pos-ne-negsuc}
 use lib.ListN.{length, getD, replicate, length-reverse, List·getD-eq-default}
 use Rattle.lent.proofs.Tests.{by-test}
 use Rattle.lent.proofs.Numbers.{le-or-lt}
-use Rattle.alignment.specs.Cigar.{kindOf, lengthOf, takesBases, takesPlaces, basesTaken, placesTaken, referenceSpan}
-use Rattle.alignment.specs.Cigar.{missing, upFrom, placed, forward, readPlaces}
-use Rattle.alignment.proofs.ListLaws.{getD-reverse}
+use Rattle.cigar.specs.Cigar.{kindOf, lengthOf, takesBases, takesPlaces, basesTaken, placesTaken, referenceSpan}
+use Rattle.cigar.specs.Cigar.{missing, upFrom, placed, forward, readPlaces}
+use Rattle.lent.proofs.Reversed.{getD-reverse}
 use Rattle.alignment.proofs.Mirror.{reverse-is-mirror}
 
 -- from lo on each place lies above the one before it, and all lie below hi; a base may have none

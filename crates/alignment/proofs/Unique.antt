@@ -11,7 +11,7 @@ use Rattle.lent.specs.Filled.{leaves}
 use Rattle.lent.specs.declared.Written.{Written}
 use Rattle.lent.proofs.Outcome.{says-inj}
 use Rattle.lent.proofs.Filled.{settled}
-use Rattle.alignment.specs.Cigar.{queryPlaces}
+use Rattle.cigar.specs.Cigar.{queryPlaces}
 use Rattle.alignment.specs.Reference.{isCpg, fetchedBases}
 
 -- an answer and a row, as a call leaves them that comes to `o`

@@ -1,3 +1,1 @@
-pub mod Cigar
-pub mod Walk
 pub mod Reference

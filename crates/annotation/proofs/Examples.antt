@@ -9,8 +9,9 @@ use lib.ListN.{take}
 use Rattle.lent.specs.Outcome.{done, refuse}
 use Rattle.pattern.specs.Case.{upper, sameInAnyCase}
 use Rattle.pattern.specs.declared.ConversionPattern.the-variants.{CToT, GToA}
-use Rattle.rows.specs.Columns.{gatedCounts, asYes, asTagCounts, restored, columnsOf, restorable, truncated, countsInRoom}
-use Rattle.rows.specs.Reads.{readsOf, informativeAt, basesAt, howMany, informativeColumn, unconvertedColumn, convertedColumn, inRoom, annotated}
+use Rattle.columns.specs.Columns.{gatedCounts, asYes, asTagCounts, restored, informativeAt, informativeColumn}
+use Rattle.refusals.specs.Refusals.{columnsOf, restorable, truncated, countsInRoom, inRoom, annotated}
+use Rattle.counting.specs.Reads.{readsOf, basesAt, howMany, unconvertedColumn, convertedColumn}
 
 -- ---- two reads, "CTc" and "TCAG", whose second base is not aligned, over the reference row "CcA" and a consensus of four positions
 

@@ -6,8 +6,7 @@ use mathlib.Core.List.{List, [], _∷_}
 use Rattle.lent.proofs.Tests.{by-test}
 use Rattle.evidence.specs.Row.{gatedRow}
 use Rattle.annotation.specs.Records.{recordsOf}
-use Rattle.rows.specs.Columns.{gatedCounts}
-use Rattle.rows.specs.Reads.{isYes}
+use Rattle.columns.specs.Columns.{gatedCounts, isYes}
 
 -- gating the row that the columns make is making a row of the gated columns
 pub gated-row-is-gated-columns : (ys us cs : List ℕ) → gatedRow (recordsOf ys us cs) ≡ recordsOf ys (gatedCounts ys us) (gatedCounts ys cs)

@@ -1,4 +1,3 @@
-pub mod Leaves
 pub mod Outcomes
 pub mod Unique
 pub mod Examples

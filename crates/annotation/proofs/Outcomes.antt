@@ -11,8 +11,8 @@ use borrow.Author.Tests.{leb-true, eqb-true}
 use Rattle.lent.proofs.Outcome.{done-inj, need-test, need-rest, and-then-inv}
 use Rattle.lent.proofs.Tests.{and-true-l, and-true-r}
 use Rattle.lent.specs.Outcome.{done, need}
-use Rattle.rows.specs.Columns.{columnsOf, restorable, truncated, countsInRoom}
-use Rattle.rows.specs.Reads.{sum, inRoom, annotated}
+use Rattle.refusals.specs.Refusals.{columnsOf, restorable, truncated, countsInRoom, inRoom, annotated}
+use Rattle.lent.specs.Lists.{sum}
 
 pub record InRoom (n inf unc con k : ℕ) : Type 0 where
   pub is : k ≡ n

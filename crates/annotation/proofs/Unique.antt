@@ -12,8 +12,9 @@ use Rattle.lent.specs.Filled.{leaves}
 use Rattle.lent.specs.Outcome.{Outcome, says}
 use Rattle.lent.specs.declared.Written.{Written}
 use Rattle.pattern.specs.declared.ConversionPattern.{ConversionPattern}
-use Rattle.rows.specs.Columns.{gatedCounts, asYes, asTagCounts, restored, columnsOf, restorable, truncated, countsInRoom}
-use Rattle.rows.specs.Reads.{informativeColumn, unconvertedColumn, convertedColumn, readsOf, annotated}
+use Rattle.columns.specs.Columns.{gatedCounts, asYes, asTagCounts, restored, informativeColumn}
+use Rattle.refusals.specs.Refusals.{columnsOf, restorable, truncated, countsInRoom, annotated}
+use Rattle.counting.specs.Reads.{unconvertedColumn, convertedColumn, readsOf}
 
 -- an answer with what it says, and a row with what it is left as
 same-answer : {o : Outcome ℕ} (r s : Written) → says r ≡ o → says s ≡ o → r ≡ s

@@ -3,7 +3,7 @@
 use Prim.Native.Nat.{ℕ}
 use mathlib.Core.List.{List, [], _∷_}
 use Rattle.evidence.specs.declared.MethylationEvidence.{MethylationEvidence}
-use Rattle.rows.specs.Reads.{isYes}
+use Rattle.columns.specs.Columns.{isYes}
 
 -- the columns as a row: a record for each position, as far as all three go
 unfoldable pub recordsOf : List ℕ → List ℕ → List ℕ → List MethylationEvidence

@@ -1,15 +1,16 @@
 // The methylation annotation of a consensus: counting it from reads, gating, truncating, the counts as tags hold them, restoring SEQ. Port step 3.
 //
 // Names are the Rust's. The Rust's vector of evidence is three lent columns: informative (nonzero is yes, and yes is written as 1), unconverted and
-// converted. No function here asks anything of its caller, and each contract is an equation with a definition of the crate `rows`, which also does the
-// work once a call is known not to be refused.
+// converted. No function here asks anything of its caller, and each contract is an equation with definitions of the crates `refusals`, `columns` and
+// `counting`, whose functions find out whether a call is refused and, where it is not, do the work.
 ghost use mathlib.Core.Path.{_≡_};
 ghost use Prim.Native.Nat.{ℕ};
 ghost use lib.ListN.{length, take};
 ghost use Rattle.lent.specs.Outcome.{says};
 ghost use Rattle.lent.specs.Filled.{leaves};
-ghost use Rattle.rows.specs.Reads.{readsOf, informativeColumn, unconvertedColumn, convertedColumn, annotated};
-ghost use Rattle.rows.specs.Columns.{gatedCounts, asYes, asTagCounts, restored, columnsOf, restorable, truncated, countsInRoom};
+ghost use Rattle.counting.specs.Reads.{readsOf, unconvertedColumn, convertedColumn};
+ghost use Rattle.columns.specs.Columns.{informativeColumn, gatedCounts, asYes, asTagCounts, restored};
+ghost use Rattle.refusals.specs.Refusals.{annotated, columnsOf, restorable, truncated, countsInRoom};
 use lent::Written;
 use pattern::ConversionPattern;
 
@@ -40,7 +41,7 @@ pub fn annotate_simplex_methylation(
         × (now (unconverted .exit) ≡ leaves (unconvertedColumn pattern «count_all_positions» row reads) o (now (unconverted .entry)))
         × (now (converted .exit) ≡ leaves (convertedColumn pattern «count_all_positions» row reads) o (now (converted .entry)))) ⌝ }
 {
-    let asked = rows::checks::annotated(
+    let asked = refusals::annotated(
         consensus_len,
         read_lengths,
         read_bases,
@@ -52,7 +53,7 @@ pub fn annotate_simplex_methylation(
     let Written::Done(n) = asked else {
         return asked;
     };
-    rows::counting::fill(
+    counting::fill(
         read_lengths,
         read_bases,
         ref_bases,
@@ -78,12 +79,12 @@ pub fn gate_to_informative(
         × (now (unconverted .exit) ≡ leaves (λ (n : ℕ). gatedCounts (now (informative .entry)) (now (unconverted .entry))) o (now (unconverted .entry)))
         × (now (converted .exit) ≡ leaves (λ (n : ℕ). gatedCounts (now (informative .entry)) (now (converted .entry))) o (now (converted .entry)))) ⌝ }
 {
-    let asked = rows::checks::columns_of(informative.len(), unconverted.len(), converted.len());
+    let asked = refusals::columns_of(informative.len(), unconverted.len(), converted.len());
     let Written::Done(_) = asked else {
         return asked;
     };
-    rows::columns::gate(informative, unconverted);
-    rows::columns::gate(informative, converted);
+    columns::gate(informative, unconverted);
+    columns::gate(informative, converted);
     asked
 }
 
@@ -105,7 +106,7 @@ pub fn truncate(
         × (now («kept_unconverted» .exit) ≡ leaves (λ (k : ℕ). take k (now (unconverted .entry))) o (now («kept_unconverted» .entry)))
         × (now («kept_converted» .exit) ≡ leaves (λ (k : ℕ). take k (now (converted .entry))) o (now («kept_converted» .entry)))) ⌝ }
 {
-    let asked = rows::checks::truncated(
+    let asked = refusals::truncated(
         len,
         informative.len(),
         unconverted.len(),
@@ -117,9 +118,9 @@ pub fn truncate(
     let Written::Done(k) = asked else {
         return asked;
     };
-    rows::columns::copy_marks(&informative[0..k], kept_informative);
-    rows::columns::copy_counts(&unconverted[0..k], kept_unconverted);
-    rows::columns::copy_counts(&converted[0..k], kept_converted);
+    columns::marks::copy_marks(&informative[0..k], kept_informative);
+    columns::copy_counts(&unconverted[0..k], kept_unconverted);
+    columns::copy_counts(&converted[0..k], kept_converted);
     asked
 }
 
@@ -135,7 +136,7 @@ pub fn unconverted_counts(
         (length (now (counts .entry))) in
         (says r ≡ o) × (now (counts .exit) ≡ leaves (λ (n : ℕ). asTagCounts (now (unconverted .entry))) o (now (counts .entry)))) ⌝ }
 {
-    let asked = rows::checks::counts_in_room(
+    let asked = refusals::counts_in_room(
         informative.len(),
         unconverted.len(),
         converted.len(),
@@ -144,7 +145,7 @@ pub fn unconverted_counts(
     let Written::Done(_) = asked else {
         return asked;
     };
-    rows::columns::put_tag_counts(unconverted, counts);
+    columns::put_tag_counts(unconverted, counts);
     asked
 }
 
@@ -159,7 +160,7 @@ pub fn converted_counts(
         (length (now (counts .entry))) in
         (says r ≡ o) × (now (counts .exit) ≡ leaves (λ (n : ℕ). asTagCounts (now (converted .entry))) o (now (counts .entry)))) ⌝ }
 {
-    let asked = rows::checks::counts_in_room(
+    let asked = refusals::counts_in_room(
         informative.len(),
         unconverted.len(),
         converted.len(),
@@ -168,7 +169,7 @@ pub fn converted_counts(
     let Written::Done(_) = asked else {
         return asked;
     };
-    rows::columns::put_tag_counts(converted, counts);
+    columns::put_tag_counts(converted, counts);
     asked
 }
 
@@ -184,10 +185,10 @@ pub fn restore_unconverted_bases(
         × (now («consensus_bases» .exit)
         ≡ leaves (λ (n : ℕ). restored pattern (now (informative .entry)) (now («consensus_bases» .entry))) o (now («consensus_bases» .entry)))) ⌝ }
 {
-    let asked = rows::checks::restorable(consensus_bases.len(), informative.len());
+    let asked = refusals::restorable(consensus_bases.len(), informative.len());
     let Written::Done(_) = asked else {
         return asked;
     };
-    rows::columns::restore(consensus_bases, pattern, informative);
+    columns::restore(consensus_bases, pattern, informative);
     asked
 }

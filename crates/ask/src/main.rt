@@ -10,7 +10,9 @@ ghost use lib.ListN.{length};
 use alignment_answers::pat;
 use alignment_answers::places;
 use asking::text;
+use building_answers::build;
 use bytes::scan::find;
+use duplex_answers::strands;
 use evidence_answers::columns;
 use evidence_answers::counting;
 use inplace_answers::gate;
@@ -18,6 +20,7 @@ use inplace_answers::restore;
 use libc::STDIN_FILENO;
 use libc::STDOUT_FILENO;
 use replying::reply;
+use rewriting_answers::edits;
 use tags_answers::read;
 
 // What is known of the input: how many bytes of the buffer are filled, and whether they belong to a line that was too long for it and has
@@ -94,6 +97,36 @@ fn answer_of_tags(line: &[u8], name: &[u8], out: &mut [u8]) -> usize
     }
     if check::same(name, b"TALLY") {
         return read::answer_tally(line, out);
+    }
+    answer_of_building(line, name, out)
+}
+
+fn answer_of_building(line: &[u8], name: &[u8], out: &mut [u8]) -> usize
+    ensures { λ r. ⌜ r ≤ length (now (out .exit)) ⌝ }
+{
+    if check::same(name, b"BUILD") {
+        return build::answer_build(line, out);
+    }
+    if check::same(name, b"BUILDMM") {
+        return build::answer_buildmm(line, out);
+    }
+    if check::same(name, b"DUP") {
+        return strands::answer_dup(line, out);
+    }
+    answer_of_rewriting(line, name, out)
+}
+
+fn answer_of_rewriting(line: &[u8], name: &[u8], out: &mut [u8]) -> usize
+    ensures { λ r. ⌜ r ≤ length (now (out .exit)) ⌝ }
+{
+    if check::same(name, b"MASK") {
+        return edits::answer_mask(line, out);
+    }
+    if check::same(name, b"DROP") {
+        return edits::answer_drop(line, out);
+    }
+    if check::same(name, b"CUT") {
+        return edits::answer_cut(line, out);
     }
     reply::unknown(out)
 }

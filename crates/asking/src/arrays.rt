@@ -71,3 +71,10 @@ pub fn call_column() -> [u32; 65537]
 {
     [0; 65537]
 }
+
+// For places that an edit names.
+pub fn named_places() -> [u32; 65537]
+    ensures { λ r. ⌜ 65537 ≡ length r ⌝ }
+{
+    [0; 65537]
+}

@@ -14,6 +14,16 @@ pub const NO_ROW: usize = 18446744073709551615;
 
 // Numbers up to 2^32-1.
 pub fn counts(s: &[u8], row: &mut [u32]) -> usize {
+    held_numbers(s, false, row)
+}
+
+// Places that an edit names, up to 2^64-1. One above 2^32-1 is put as 2^32-1: both lie past the end of every SEQ.
+pub fn named_places(s: &[u8], row: &mut [u32]) -> usize {
+    held_numbers(s, true, row)
+}
+
+// Numbers as a u32 holds them: a larger one is put as the largest where it is to be capped, and is otherwise none of the list.
+fn held_numbers(s: &[u8], capped: bool, row: &mut [u32]) -> usize {
     if check::same(s, b"*") {
         return 0;
     }
@@ -21,7 +31,7 @@ pub fn counts(s: &[u8], row: &mut [u32]) -> usize {
     let mut n = 0;
     while n < row.len() {
         let end = find(s, from, s.len(), b',');
-        if !put_count(&s[from..end], row, n) {
+        if !put_held(&s[from..end], capped, row, n) {
             return NO_ROW;
         }
         n += 1;
@@ -33,7 +43,7 @@ pub fn counts(s: &[u8], row: &mut [u32]) -> usize {
     NO_ROW
 }
 
-fn put_count(item: &[u8], row: &mut [u32], n: usize) -> bool
+fn put_held(item: &[u8], capped: bool, row: &mut [u32], n: usize) -> bool
     requires { ⌜ n < length (now row) ⌝ }
 {
     let asked = text::decimal(item);
@@ -41,7 +51,8 @@ fn put_count(item: &[u8], row: &mut [u32], n: usize) -> bool
         return false;
     };
     if 4294967295 < v {
-        return false;
+        row[n] = u32::MAX;
+        return capped;
     }
     row[n] = v as u32;
     true
@@ -293,7 +304,7 @@ pub fn columns(
     unconverted: &mut [u32],
     converted: &mut [u32],
 ) -> ColumnLengths
-    requires { ⌜ k ≤ 8 ⌝ }
+    requires { ⌜ k ≤ 12 ⌝ }
 {
     let i = bytes(text::field(line, k), informative);
     let u = counts(text::field(line, k + 1), unconverted);

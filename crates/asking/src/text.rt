@@ -2,6 +2,7 @@
 ghost use Prim.Native.Nat.{_≤_};
 use bytes::scan::find;
 use pattern::ConversionPattern;
+use pattern::MethylationMode;
 
 // The field that k tabs stand before; no bytes where the line has not so many fields.
 pub fn field(line: &[u8], k: usize) -> &[u8] {
@@ -149,6 +150,30 @@ pub fn is_pattern(s: &[u8]) -> bool {
         Pattern::Of(_) => true,
         Pattern::None => false,
     }
+}
+
+// The pattern of a field that is a pattern's letter; C to T for any other.
+pub fn pattern_of(s: &[u8]) -> ConversionPattern {
+    if check::same(s, b"G") {
+        return ConversionPattern::GToA;
+    }
+    ConversionPattern::CToT
+}
+
+// The field is a chemistry's letter.
+pub fn is_mode(s: &[u8]) -> bool {
+    check::same(s, b"E") || check::same(s, b"T") || check::same(s, b"D")
+}
+
+// The chemistry of a field that is its letter; none for any other.
+pub fn mode_of(s: &[u8]) -> MethylationMode {
+    if check::same(s, b"E") {
+        return MethylationMode::EmSeq;
+    }
+    if check::same(s, b"T") {
+        return MethylationMode::Taps;
+    }
+    MethylationMode::Disabled
 }
 
 // The smaller of two: a number of entries held within a row.

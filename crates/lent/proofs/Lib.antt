@@ -3,4 +3,8 @@ pub mod Lists
 pub mod Numbers
 pub mod Outcome
 pub mod Filled
+pub mod Stores
 pub mod InPlace
+pub mod Leaves
+pub mod Tabulate
+pub mod Reversed

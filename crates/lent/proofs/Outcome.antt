@@ -1,14 +1,16 @@
 -- Taking an outcome apart: what holds where something was done.
 -- Assumes nothing.
-use mathlib.Core.Path.{_≡_, refl}
+use mathlib.Core.Path.{_≡_, refl, ap}
 use Prim.Native.Nat.{ℕ}
 use native.Mathlib.Omega.{arith}
 use mathlib.Core.Bool.{Bool, true, false, _&&_}
 use mathlib.Core.List.{List, [], _∷_}
-use Rattle.lent.specs.Outcome.{Outcome, refused, done, need, onDone, andThen, withFirst, says}
+use Rattle.lent.specs.Outcome.{Outcome, refused, done, need, onDone, andThen, withFirst, says, tagSays}
 use Rattle.lent.specs.declared.Refusal.{Refusal}
 use Rattle.lent.specs.declared.Written.{Written}
 use Rattle.lent.specs.declared.Written.the-variants.{Done, Refused}
+use Rattle.lent.specs.declared.Tagged.{Tagged}
+use Rattle.lent.specs.declared.Tagged.the-variants as tagged
 
 module _ {A : Type 0} where
   pub done-inj : {a b : A} → done a ≡ done b → a ≡ b
@@ -57,3 +59,9 @@ says-inj (Done m) (Done n) e = cc
 says-inj (Done m) (Refused s) e = let z : _≡_ {A = ℕ} 0 1 = cc in absurd (omega arith)
 says-inj (Refused r) (Done n) e = let z : _≡_ {A = ℕ} 0 1 = cc in absurd (omega arith)
 says-inj (Refused r) (Refused s) e = cc
+
+pub tag-says-inj : (a b : Tagged) → tagSays a ≡ tagSays b → a ≡ b
+tag-says-inj (tagged.Done t m) (tagged.Done u n) e = let p : _≡_ {A = ℕ × ℕ} (t, m) (u, n) = done-inj e in λ j. tagged.Done (p j .0) (p j .1)
+tag-says-inj (tagged.Done t m) (tagged.Refused s) e = let z : _≡_ {A = ℕ} 0 1 = cc in absurd (omega arith)
+tag-says-inj (tagged.Refused r) (tagged.Done u n) e = let z : _≡_ {A = ℕ} 0 1 = cc in absurd (omega arith)
+tag-says-inj (tagged.Refused r) (tagged.Refused s) e = let p : r ≡ s = cc in ap tagged.Refused p

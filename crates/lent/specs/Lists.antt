@@ -1,6 +1,6 @@
 -- Tests over a list, and lists made from a list: what the definitions of tags and evidence are written with.
 -- Assumes nothing.
-use Prim.Native.Nat.{ℕ, zero, suc}
+use Prim.Native.Nat.{ℕ, zero, suc, _+_}
 use mathlib.Core.Bool.{Bool, true, false, cond, _&&_, _||_}
 use mathlib.Core.List.{List, [], _∷_, _++_}
 use lib.Dec.{eqb}
@@ -55,3 +55,7 @@ module _ {A B C : Type 0} where
 -- n stands in the list
 abbrev pub among : List ℕ → ℕ → Bool
 among ns n = any (λ m. eqb m n) ns
+
+abbrev pub sum : List ℕ → ℕ
+sum [] = 0
+sum (n ∷ ns) = n + sum ns

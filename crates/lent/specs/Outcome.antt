@@ -7,6 +7,8 @@ use mathlib.Core.List.{List, [], _∷_}
 use Rattle.lent.specs.declared.Refusal.{Refusal}
 use Rattle.lent.specs.declared.Written.{Written}
 use Rattle.lent.specs.declared.Written.the-variants.{Done, Refused}
+use Rattle.lent.specs.declared.Tagged.{Tagged}
+use Rattle.lent.specs.declared.Tagged.the-variants as tagged
 
 pub data Outcome (A : Type 0) : Type 0 where
   refused : Refusal → Outcome A
@@ -50,3 +52,12 @@ module _ {A B : Type 0} where
 abbrev pub says : Written → Outcome ℕ
 says (Done n) = done n
 says (Refused r) = refused r
+
+-- each case of `Tagged` likewise: 0 and how many bytes of text and values of ML, or the refusal
+abbrev pub tagSays : Tagged → Outcome (ℕ × ℕ)
+tagSays (tagged.Done t m) = done (t, m)
+tagSays (tagged.Refused r) = refused r
+
+abbrev pub tagRefusal : Tagged → Refusal
+tagRefusal (tagged.Done t m) = refusal 0
+tagRefusal (tagged.Refused r) = r

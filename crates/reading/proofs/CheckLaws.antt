@@ -1,35 +1,20 @@
 -- What is asked of a tag before its groups are read: each test by itself, in the scope's order.
 -- Assumes nothing.
-use mathlib.Core.Path.{_≡_, refl, _∙_, sym}
+use mathlib.Core.Path.{_≡_, _∙_}
 use Prim.Native.Nat.{_<_, _≤_, ℕ}
-use native.Mathlib.Omega.{arith}
-use mathlib.Core.Bool.{Bool, cond, false, true, _&&_}
+use mathlib.Core.Bool.{Bool, cond, false, true}
 use mathlib.Core.List.{List, []}
-use lib.Dec.{eqb, leb}
-use lib.ListN.{length, take}
-use lib.Seq.{take-all}
-use borrow.Author.Tests.{le-leb, lt-leb, eqb-true, leb-true}
+use lib.Dec.{eqb}
+use lib.ListN.{length}
+use borrow.Author.Tests.{le-leb, lt-leb, eqb-true}
 use Rattle.lent.proofs.Outcome.{need-rest, need-test}
-use Rattle.lent.proofs.Tests.{and-true-l, and-true-r}
 use Rattle.lent.specs.Lists.{every, lastOr}
 use Rattle.lent.specs.Outcome.{Outcome, need, refuse, done}
+use Rattle.samtags.proofs.Taken.{in-domain, taken-fits}
 use Rattle.samtags.specs.Bytes.{isAscii}
 use Rattle.samtags.specs.Reading.{inDomain, nowhere, readGroups, read}
 use Rattle.samtags.specs.Spots.{Group}
 use Rattle.samtags.specs.Text.{closedBy}
-
--- of the row lent for ML no more is taken than there is
-pub taken-few : (ml? : Bool) (n : ℕ) → cond ml? n 0 ≤ n
-taken-few true n = omega arith
-taken-few false n = omega arith
-
-pub taken-is : (ml? : Bool) (ml : List ℕ) (n : ℕ) → n ≡ cond ml? (length ml) 0 → take n ml ≡ cond ml? ml []
-taken-is true ml n e = rw e (take-all (length ml) ml (omega arith))
-taken-is false ml n e = rw e
-
-taken-fits : (ml? : Bool) (ml : List ℕ) → cond ml? (leb (length ml) 65536) true ≡ leb (cond ml? (length ml) 0) 65536
-taken-fits true ml = refl
-taken-fits false ml = refl
 
 module _ (ml? : Bool) (seq text ml : List ℕ) where
   abbrev pub tested : Outcome (List Group)
@@ -72,14 +57,13 @@ pub record Passed (ml? : Bool) (seq text ml : List ℕ) (gs : List Group) : Type
 pub passed : (ml? : Bool) (seq text ml : List ℕ) (gs : List Group) → tested ml? seq text ml ≡ done gs → Passed ml? seq text ml gs
 unfolding read
 passed ml? seq text ml gs e =
-    let domain = need-test (inDomain ml? seq text ml) 1 _ gs e in
-    let two = and-true-l (leb (length seq) 16000 && leb (length text) 65536) _ domain in
+    let domain = in-domain ml? seq text ml (need-test (inDomain ml? seq text ml) 1 _ gs e) in
     let o = need-rest (inDomain ml? seq text ml) 1 _ gs e in
     let o₃ = need-rest (every isAscii text) 3 _ gs o in
     record {
-      seq-fits = leb-true (length seq) 16000 (and-true-l (leb (length seq) 16000) _ two);
-      text-fits = leb-true (length text) 65536 (and-true-r (leb (length seq) 16000) _ two);
-      ml-fits = leb-true (cond ml? (length ml) 0) 65536 (sym (taken-fits ml? ml) ∙ and-true-r (leb (length seq) 16000 && leb (length text) 65536) _ domain);
+      seq-fits = domain .0;
+      text-fits = domain .1;
+      ml-fits = domain .2;
       closed = eqb-true (lastOr 0 text) 59 (need-test (eqb (lastOr 0 text) 59) 4 _ gs o₃);
       groups = need-rest (eqb (lastOr 0 text) 59) 4 _ gs o₃;
     }

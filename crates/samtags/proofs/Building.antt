@@ -4,6 +4,7 @@
 use mathlib.Core.Path.{_≡_, refl, ap, _∙_, subst}
 use Prim.Native.Nat.{ℕ, suc, _+_, _*_, _≤_}
 use native.Mathlib.Omega.{arith}
+use native.Mathlib.Nat.{mul-le-mul-right, suc-mul}
 use mathlib.Core.Bool.{Bool, true, false, cond, not, _&&_}
 use mathlib.Core.List.{List, [], _∷_, _++_, map}
 use mathlib.Core.Option.{Option, none, some}
@@ -21,13 +22,13 @@ use Rattle.pattern.specs.declared.MethylationMode.{MethylationMode}
 use Rattle.samtags.specs.Bytes.{comma, semicolon}
 use Rattle.samtags.specs.Decimal.{digits}
 use Rattle.samtags.specs.Text.{baseOf}
-use Rattle.lent.specs.Outcome.{done}
+use Rattle.lent.specs.Outcome.{done, need}
 use Rattle.samtags.specs.Spots.{Spot, bare, call, placeOf, valuesOf, Group, Call, Listing, callsIn, listing, holds, placesFrom, tracked}
 use Rattle.samtags.specs.Reading.{valuesIf, lists, inDomain, readTag}
 use Rattle.samtags.specs.Writing.{Tag, skipsFrom, entriesText, groupText, textOf, mlOf, written}
-use Rattle.samtags.specs.Building.{Evidence, calledAt, spotAt, headerOf, strandGroup, hasCalls, buildTag, evidenceInDomain, evidenceAgrees, secondFirst, inJoinOrder, joinedGroups, joinedTag, callAt, callsFrom, evidenceCalls}
-use Rattle.lent.proofs.Outcome.{done-inj, need-test, need-rest}
-use Rattle.samtags.proofs.Decimal.{digits-few}
+use Rattle.samtags.specs.Building.{Evidence, calledAt, spotAt, headerOf, strandGroup, hasCalls, builtTag, buildTag, evidenceInDomain, evidenceAgrees, Strand, isCToT, inJoinOrder, groupOf, joinedGroups, joinedTag, callAt, callsFrom, evidenceCalls}
+use Rattle.lent.proofs.Outcome.{done-inj, need-test, need-rest, and-then-inv}
+use Rattle.samtags.proofs.Skips.{entries-short}
 use Rattle.samtags.proofs.SameText.{isCall, onSpots, text-same, ml-same}
 use Rattle.samtags.proofs.ReadWritten.{sized, Fits, AllFit}
 use Rattle.samtags.proofs.Places.{places-length}
@@ -206,17 +207,23 @@ no-u ml? mode p ev seq = rw (letter-base p) (letter p)
     letter CToT = refl
     letter GToA = refl
 
--- a build that is done gives its strand's tag, whatever the room
+-- a build that is done is what is built whatever the room
+pub built-in-room : (ml? : Bool) (mode : MethylationMode) (p : ConversionPattern) (ev : Evidence) (seq : List ℕ) (t m : ℕ) (r : Tag)
+    → buildTag ml? mode p ev seq t m ≡ done r → builtTag mode p ev seq ≡ done r
+unfolding buildTag
+built-in-room ml? mode p ev seq t m r e =
+    let (w, built, fits) = and-then-inv (builtTag mode p ev seq) (λ (r : Tag). need (leb (length (r .text)) t && cond ml? (leb (length (r .ml)) m) true) 12 (done r)) r e in
+    rw (done-inj (need-rest (leb (length (w .text)) t && cond ml? (leb (length (w .ml)) m) true) 12 (done w) r fits)) at built
+
+-- and that is its strand's tag
 pub built-tag : (ml? : Bool) (mode : MethylationMode) (p : ConversionPattern) (ev : Evidence) (seq : List ℕ) (t m : ℕ) (r : Tag)
     → buildTag ml? mode p ev seq t m ≡ done r → written (strandGroup mode p ev seq ∷ []) ≡ r
-unfolding buildTag
+unfolding builtTag
 built-tag ml? mode p ev seq t m r e =
     let g = strandGroup mode p ev seq in
-    let w = written (g ∷ []) in
-    let e₂ = need-rest (evidenceInDomain ev seq) 1 _ r e in
+    let e₂ = need-rest (evidenceInDomain ev seq) 1 _ r (built-in-room ml? mode p ev seq t m r e) in
     let e₃ = need-rest (evidenceAgrees ev seq) 2 _ r e₂ in
-    let e₄ = need-rest (isEnabled mode && hasCalls g) 20 _ r e₃ in
-    done-inj (need-rest (leb (length (w .text)) t && cond ml? (leb (length (w .ml)) m) true) 12 (done w) r e₄)
+    done-inj (need-rest (isEnabled mode && hasCalls g) 20 (done (written (g ∷ []))) r e₃)
 
 -- What is built, with and without ML, is read, and lists exactly the calls of the evidence.
 pub built-is-read : (ml? : Bool) (mode : MethylationMode) (p : ConversionPattern) (ev : Evidence) (seq : List ℕ) (t m : ℕ) (r : Tag) (lent : List ℕ)
@@ -227,14 +234,15 @@ built-is-read ml? mode p ev seq t m r lent u e =
     (groups-read-back ml? seq (strandGroup mode p ev seq ∷ []) lent (strand-fits ml? mode p ev seq u, tt) refl
     ∙ ap (λ (l : Listing). done (l ∷ [])) (strand-lists ml? mode p ev seq u))
 
--- ---- two strands
+-- ---- strands joined
+
+abbrev pub listingOf : Bool → MethylationMode → List ℕ → Strand → Listing
+listingOf ml? mode seq s = evidenceListing ml? mode (s .pattern) (s .evidence) seq
 
 -- the listings of the strands that have a call, C to T first
-abbrev pub joinedListings : Bool → MethylationMode → ConversionPattern → Evidence → ConversionPattern → Evidence → List ℕ → List Listing
-joinedListings ml? mode p ev q ew seq =
-    cond (isEnabled mode)
-    (filter (λ (l : Listing). not (isEmpty (l .calls))) (inJoinOrder p q (evidenceListing ml? mode p ev seq) (evidenceListing ml? mode q ew seq)))
-    []
+abbrev pub joinedListings : Bool → MethylationMode → List Strand → List ℕ → List Listing
+joinedListings ml? mode strands seq =
+    cond (isEnabled mode) (filter (λ (l : Listing). not (isEmpty (l .calls))) (map (listingOf ml? mode seq) (inJoinOrder strands))) []
 
 all-fit-filter : (ml? : Bool) (seq : List ℕ) (t : Group → Bool) (gs : List Group) → AllFit ml? seq (map (valuedGroup ml?) gs)
     → AllFit ml? seq (map (valuedGroup ml?) (filter t gs))
@@ -255,62 +263,48 @@ lists-filter ml? (g ∷ gs) =
     rw (some-valued ml? (g .spots))
     (by-test (isEmpty (callsIn (g .spots))) (λ e. rw e (lists-filter ml? gs)) (λ e. rw (e, lists-filter ml? gs)))
 
-module _ (ml? : Bool) (mode : MethylationMode) (p : ConversionPattern) (ev : Evidence) (q : ConversionPattern) (ew : Evidence) (seq : List ℕ)
-    (u : upperCase seq ≡ true) where
-  both : List Group
-  both = inJoinOrder p q (strandGroup mode p ev seq) (strandGroup mode q ew seq)
+module _ (ml? : Bool) (mode : MethylationMode) (seq : List ℕ) (u : upperCase seq ≡ true) where
+  all-fit : (strands : List Strand) → AllFit ml? seq (map (valuedGroup ml?) (map (groupOf mode seq) strands))
+  all-fit [] = tt
+  all-fit (s ∷ ss) = (strand-fits ml? mode (s .pattern) (s .evidence) seq u, all-fit ss)
 
-  both-fit : AllFit ml? seq (map (valuedGroup ml?) both)
-  unfolding both
-  both-fit =
-      by-test (secondFirst p q)
-      (λ e. rw e (strand-fits ml? mode q ew seq u, (strand-fits ml? mode p ev seq u, tt)))
-      (λ e. rw e (strand-fits ml? mode p ev seq u, (strand-fits ml? mode q ew seq u, tt)))
+  all-list : (strands : List Strand) → map listing (map (valuedGroup ml?) (map (groupOf mode seq) strands)) ≡ map (listingOf ml? mode seq) strands
+  all-list [] = refl
+  all-list (s ∷ ss) = rw (strand-lists ml? mode (s .pattern) (s .evidence) seq u, all-list ss)
 
-  both-list : map listing (map (valuedGroup ml?) both) ≡ inJoinOrder p q (evidenceListing ml? mode p ev seq) (evidenceListing ml? mode q ew seq)
-  unfolding both
-  both-list =
-      by-test (secondFirst p q)
-      (λ e. rw (e, strand-lists ml? mode p ev seq u, strand-lists ml? mode q ew seq u))
-      (λ e. rw (e, strand-lists ml? mode p ev seq u, strand-lists ml? mode q ew seq u))
-
-  joined-fit : AllFit ml? seq (map (valuedGroup ml?) (joinedGroups mode p ev q ew seq))
-  unfolding joinedGroups both
-  joined-fit = by-test (isEnabled mode) (λ e. rw e (all-fit-filter ml? seq hasCalls both both-fit)) (λ e. rw e tt)
-
-  pub joined-list : map listing (map (valuedGroup ml?) (joinedGroups mode p ev q ew seq)) ≡ joinedListings ml? mode p ev q ew seq
-  unfolding joinedGroups both
-  joined-list =
+  joined-fit : (strands : List Strand) → AllFit ml? seq (map (valuedGroup ml?) (joinedGroups mode strands seq))
+  unfolding joinedGroups
+  joined-fit strands =
       by-test (isEnabled mode)
-      (λ e. rw e (lists-filter ml? both ∙ ap (filter (λ (l : Listing). not (isEmpty (l .calls)))) both-list))
+      (λ e. rw e (all-fit-filter ml? seq hasCalls (map (groupOf mode seq) (inJoinOrder strands)) (all-fit (inJoinOrder strands))))
+      (λ e. rw e tt)
+
+  pub joined-list : (strands : List Strand) → map listing (map (valuedGroup ml?) (joinedGroups mode strands seq)) ≡ joinedListings ml? mode strands seq
+  unfolding joinedGroups
+  joined-list strands =
+      by-test (isEnabled mode)
+      (λ e. rw e (lists-filter ml? (map (groupOf mode seq) (inJoinOrder strands))
+      ∙ ap (filter (λ (l : Listing). not (isEmpty (l .calls)))) (all-list (inJoinOrder strands))))
       (λ e. rw e)
 
-  -- What is built for two strands, where it has a call, is accepted by the reader and lists exactly the calls of both, C to T first.
-  pub joined-is-read : (lent : List ℕ) → isEmpty (joinedGroups mode p ev q ew seq) ≡ false
-      → lists ml? seq (joinedTag mode p ev q ew seq .text) (cond ml? (joinedTag mode p ev q ew seq .ml) lent) ≡ done (joinedListings ml? mode p ev q ew seq)
+  -- What is built for strands, where it has a call, is accepted by the reader and lists exactly the calls of all, C to T first.
+  pub joined-is-read : (strands : List Strand) (lent : List ℕ) → isEmpty (joinedGroups mode strands seq) ≡ false
+      → lists ml? seq (joinedTag mode strands seq .text) (cond ml? (joinedTag mode strands seq .ml) lent) ≡ done (joinedListings ml? mode strands seq)
   unfolding joinedTag
-  joined-is-read lent e = groups-read-back ml? seq (joinedGroups mode p ev q ew seq) lent joined-fit e ∙ ap done joined-list
+  joined-is-read strands lent e = groups-read-back ml? seq (joinedGroups mode strands seq) lent (joined-fit strands) e ∙ ap done (joined-list strands)
 
-  strands-no-u : noU (inJoinOrder p q (evidenceListing ml? mode p ev seq) (evidenceListing ml? mode q ew seq)) ≡ true
-  strands-no-u =
-      by-test (secondFirst p q)
-      (λ e. rw (e, no-u ml? mode p ev seq, no-u ml? mode q ew seq))
-      (λ e. rw (e, no-u ml? mode p ev seq, no-u ml? mode q ew seq))
+strands-no-u : (ml? : Bool) (mode : MethylationMode) (seq : List ℕ) (strands : List Strand) → noU (map (listingOf ml? mode seq) strands) ≡ true
+strands-no-u ml? mode seq [] = refl
+strands-no-u ml? mode seq (s ∷ ss) = rw (no-u ml? mode (s .pattern) (s .evidence) seq, strands-no-u ml? mode seq ss)
 
-  pub joined-no-u : noU (joinedListings ml? mode p ev q ew seq) ≡ true
-  joined-no-u =
-      by-test (isEnabled mode)
-      (λ e. rw e (every-filter _ (λ (l : Listing). not (isEmpty (l .calls))) (inJoinOrder p q (evidenceListing ml? mode p ev seq) (evidenceListing ml? mode q ew seq)) strands-no-u))
-      (λ e. rw e)
+pub joined-no-u : (ml? : Bool) (mode : MethylationMode) (strands : List Strand) (seq : List ℕ) → noU (joinedListings ml? mode strands seq) ≡ true
+joined-no-u ml? mode strands seq =
+    by-test (isEnabled mode)
+    (λ e. rw e (every-filter _ (λ (l : Listing). not (isEmpty (l .calls))) (map (listingOf ml? mode seq) (inJoinOrder strands))
+    (strands-no-u ml? mode seq (inJoinOrder strands))))
+    (λ e. rw e)
 
 -- ---- how long a built tag is
-
--- an entry takes at most two bytes for each spot that it passes or lists
-entries-short : (n : ℕ) (ss : List Spot) → length (entriesText (skipsFrom n ss)) ≤ n + 2 * length ss
-entries-short n [] = omega arith
-entries-short n (bare p ∷ ss) = omega (arith, entries-short (suc n) ss)
-entries-short n (call p vs ∷ ss) =
-    omega (arith, digits-few n, length-append (digits n) (entriesText (skipsFrom 0 ss)), entries-short 0 ss)
 
 -- a strand's text and values, over n bases
 abbrev Short : ℕ → Group → Type 0
@@ -341,34 +335,47 @@ strand-short mode p ev seq =
       omega (arith, few, values-short (calledAt mode ev) places),
     )
 
-two-short : (n : ℕ) (t : Group → Bool) (g h : Group) → Short n g → Short n h
-    → (length (textOf (filter t (g ∷ h ∷ []))) ≤ 4 * n + 10) × (length (mlOf (filter t (g ∷ h ∷ []))) ≤ 2 * n)
+-- as many strands as there are groups, each short
+filter-short : (n : ℕ) (t : Group → Bool) (mode : MethylationMode) (seq : List ℕ) → length seq ≡ n → (strands : List Strand)
+    → (length (textOf (filter t (map (groupOf mode seq) strands))) ≤ length strands * (2 * n + 5))
+    × (length (mlOf (filter t (map (groupOf mode seq) strands))) ≤ length strands * n)
 unfolding textOf mlOf
-two-short n t g h sg sh =
+filter-short n t mode seq l [] = (omega arith, omega arith)
+filter-short n t mode seq l (s ∷ ss) =
+    let g = groupOf mode seq s in
+    let rest = filter t (map (groupOf mode seq) ss) in
+    let short : Short n g = subst (λ (k : ℕ). Short k g) l (strand-short mode (s .pattern) (s .evidence) seq) in
+    let more = filter-short n t mode seq l ss in
+    let one : suc (length ss) * (2 * n + 5) ≡ length ss * (2 * n + 5) + (2 * n + 5) = suc-mul (length ss) (2 * n + 5) in
+    let two : suc (length ss) * n ≡ length ss * n + n = suc-mul (length ss) n in
     by-test (t g)
-    (λ e. rw e (by-test (t h)
-    (λ f. rw f (
-      omega (arith, length-append (groupText g) (groupText h ++ []), length-append (groupText h) []),
-      omega (arith, length-append (concatMap valuesOf (g .spots)) (concatMap valuesOf (h .spots) ++ []), length-append (concatMap valuesOf (h .spots)) []),
+    (λ e. rw e (
+      omega (arith, short .0, more .0, one, length-append (groupText g) (textOf rest)),
+      omega (arith, short .1, more .1, two, length-append (concatMap valuesOf (g .spots)) (mlOf rest)),
     ))
-    (λ f. rw f (omega (arith, length-append (groupText g) []), omega (arith, length-append (concatMap valuesOf (g .spots)) [])))))
-    (λ e. rw e (by-test (t h)
-    (λ f. rw f (omega (arith, length-append (groupText h) []), omega (arith, length-append (concatMap valuesOf (h .spots)) [])))
-    (λ f. rw f (omega arith, omega arith))))
+    (λ e. rw e (omega (arith, more .0, one), omega (arith, more .1, two)))
 
--- A tag that is built for two strands on at most 16,000 bases takes at most 64,010 bytes of text and 32,000 of ML: it can always be edited.
-pub joined-fits-the-domain : (mode : MethylationMode) (p : ConversionPattern) (ev : Evidence) (q : ConversionPattern) (ew : Evidence) (seq : List ℕ)
-    → length seq ≤ 16000
-    → (length (joinedTag mode p ev q ew seq .text) ≤ 64010) × (length (joinedTag mode p ev q ew seq .ml) ≤ 32000)
+-- sorting the strands leaves as many
+order-length : (strands : List Strand) → length (inJoinOrder strands) ≡ length strands
+order-length strands = length-append (filter isCToT strands) (filter (λ s. not (isCToT s)) strands) ∙ parted strands
+  where
+    parted : (ss : List Strand) → length (filter isCToT ss) + length (filter (λ s. not (isCToT s)) ss) ≡ length ss
+    parted [] = refl
+    parted (s ∷ ss) = by-test (isCToT s) (λ e. rw e (omega (arith, parted ss))) (λ e. rw e (omega (arith, parted ss)))
+
+-- A tag that is built for one or two strands on at most 16,000 bases takes at most 64,010 bytes of text and 32,000 of ML: it can always be edited.
+pub joined-fits-the-domain : (mode : MethylationMode) (strands : List Strand) (seq : List ℕ) → length strands ≤ 2 → length seq ≤ 16000
+    → (length (joinedTag mode strands seq .text) ≤ 64010) × (length (joinedTag mode strands seq .ml) ≤ 32000)
 unfolding joinedTag joinedGroups
-joined-fits-the-domain mode p ev q ew seq h =
-    let a = strandGroup mode p ev seq in
-    let b = strandGroup mode q ew seq in
+joined-fits-the-domain mode strands seq few h =
+    let s = filter-short (length seq) hasCalls mode seq refl (inJoinOrder strands) in
+    let ends = at-most-two (length strands) (length seq) few h in
     by-test (isEnabled mode)
-    (λ e. rw e (by-test (secondFirst p q)
-    (λ f. let s = two-short (length seq) hasCalls b a (strand-short mode q ew seq) (strand-short mode p ev seq) in rw f (omega (arith, s .0), omega (arith, s .1)))
-    (λ f. let s = two-short (length seq) hasCalls a b (strand-short mode p ev seq) (strand-short mode q ew seq) in rw f (omega (arith, s .0), omega (arith, s .1)))))
+    (λ e. rw e (omega (arith, (rw (order-length strands) at (s .0)), ends .0), omega (arith, (rw (order-length strands) at (s .1)), ends .1)))
     (λ e. rw e (omega arith, omega arith))
+  where
+    at-most-two : (k n : ℕ) → k ≤ 2 → n ≤ 16000 → (k * (2 * n + 5) ≤ 64010) × (k * n ≤ 32000)
+    at-most-two k n a b = (omega (arith, mul-le-mul-right (2 * n + 5) a), omega (arith, mul-le-mul-right n a))
 
 -- ---- the public reader takes what is built
 
@@ -380,11 +387,11 @@ in-domain false seq r lent a b c = rw (le-leb (length seq) 16000 a, le-leb (leng
 -- what is built for one strand is no longer than the domain allows
 built-short : (ml? : Bool) (mode : MethylationMode) (p : ConversionPattern) (ev : Evidence) (seq : List ℕ) (t m : ℕ) (r : Tag)
     → buildTag ml? mode p ev seq t m ≡ done r → (length seq ≤ 16000) × (length (r .text) ≤ 32005) × (length (r .ml) ≤ 16000)
-unfolding buildTag written textOf mlOf
+unfolding builtTag written textOf mlOf
 built-short ml? mode p ev seq t m r e =
     let g = strandGroup mode p ev seq in
     let short = strand-short mode p ev seq in
-    let inside = need-test (evidenceInDomain ev seq) 1 _ r e in
+    let inside = need-test (evidenceInDomain ev seq) 1 _ r (built-in-room ml? mode p ev seq t m r e) in
     let size : length seq ≤ 16000 = leb-true (length seq) 16000 (and-true-l (leb (length seq) 16000) _ (and-true-l _ _ (and-true-l _ _ inside))) in
     let same = built-tag ml? mode p ev seq t m r e in
     subst (λ (q : Tag). (length seq ≤ 16000) × (length (q .text) ≤ 32005) × (length (q .ml) ≤ 16000)) same (
@@ -402,10 +409,10 @@ built-is-accepted ml? mode p ev seq t m r lent u e =
     let s = built-short ml? mode p ev seq t m r e in
     rw (in-domain ml? seq r lent (s .0) (omega (arith, s .1)) (omega (arith, s .2))) (built-is-read ml? mode p ev seq t m r lent u e)
 
-pub joined-is-accepted : (ml? : Bool) (mode : MethylationMode) (p : ConversionPattern) (ev : Evidence) (q : ConversionPattern) (ew : Evidence) (seq : List ℕ)
-    (lent : List ℕ) → upperCase seq ≡ true → length seq ≤ 16000 → isEmpty (joinedGroups mode p ev q ew seq) ≡ false
-    → readTag ml? seq (joinedTag mode p ev q ew seq .text) (cond ml? (joinedTag mode p ev q ew seq .ml) lent) ≡ done (joinedListings ml? mode p ev q ew seq)
+pub joined-is-accepted : (ml? : Bool) (mode : MethylationMode) (strands : List Strand) (seq lent : List ℕ) → upperCase seq ≡ true → length strands ≤ 2
+    → length seq ≤ 16000 → isEmpty (joinedGroups mode strands seq) ≡ false
+    → readTag ml? seq (joinedTag mode strands seq .text) (cond ml? (joinedTag mode strands seq .ml) lent) ≡ done (joinedListings ml? mode strands seq)
 unfolding readTag
-joined-is-accepted ml? mode p ev q ew seq lent u h e =
-    let s = joined-fits-the-domain mode p ev q ew seq h in
-    rw (in-domain ml? seq (joinedTag mode p ev q ew seq) lent h (omega (arith, s .0)) (omega (arith, s .1))) (joined-is-read ml? mode p ev q ew seq u lent e)
+joined-is-accepted ml? mode strands seq lent u few h e =
+    let s = joined-fits-the-domain mode strands seq few h in
+    rw (in-domain ml? seq (joinedTag mode strands seq) lent h (omega (arith, s .0)) (omega (arith, s .1))) (joined-is-read ml? mode seq u strands lent e)

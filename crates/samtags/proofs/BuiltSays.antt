@@ -17,7 +17,7 @@ use Rattle.lent.specs.Outcome.{done}
 use Rattle.samtags.specs.Spots.{Group, Listing, listing}
 use Rattle.samtags.specs.Reading.{lists}
 use Rattle.samtags.specs.Writing.{Tag, skipsFrom, textOf, written}
-use Rattle.samtags.specs.Building.{Evidence, strandGroup, hasCalls, buildTag, secondFirst, inJoinOrder, joinedGroups, joinedTag}
+use Rattle.samtags.specs.Building.{Evidence, strandGroup, hasCalls, buildTag, Strand, inJoinOrder, groupOf, joinedGroups, joinedTag}
 use Rattle.samtags.specs.Samtags.{TagMeans, ledByCommas, spelled, isHeader, headerText, Spelled, isSpelling, pieceOf, meaningOf}
 use Rattle.samtags.proofs.Text.{entries-fields, digits-numbers}
 use Rattle.samtags.proofs.Names.{upperCase}
@@ -104,25 +104,22 @@ built-says ml? mode p ev seq t m r lent u e =
     (ap (λ (l : Listing). l ∷ []) (strand-lists ml? mode p ev seq u)) u (rw (no-u ml? mode p ev seq))
     (rw same reads))
 
-module _ (ml? : Bool) (mode : MethylationMode) (p : ConversionPattern) (ev : Evidence) (q : ConversionPattern) (ew : Evidence) (seq : List ℕ)
-    (u : upperCase seq ≡ true) where
-  both-strands : AllStrandlike (inJoinOrder p q (strandGroup mode p ev seq) (strandGroup mode q ew seq))
-  both-strands =
-      by-test (secondFirst p q)
-      (λ e. rw e (strand-is mode q ew seq, (strand-is mode p ev seq, tt)))
-      (λ e. rw e (strand-is mode p ev seq, (strand-is mode q ew seq, tt)))
+module _ (ml? : Bool) (mode : MethylationMode) (seq : List ℕ) (u : upperCase seq ≡ true) where
+  all-strands : (strands : List Strand) → AllStrandlike (map (groupOf mode seq) strands)
+  all-strands [] = tt
+  all-strands (s ∷ ss) = (strand-is mode (s .pattern) (s .evidence) seq, all-strands ss)
 
-  joined-strands : AllStrandlike (joinedGroups mode p ev q ew seq)
+  joined-strands : (strands : List Strand) → AllStrandlike (joinedGroups mode strands seq)
   unfolding joinedGroups
-  joined-strands =
+  joined-strands strands =
       by-test (isEnabled mode)
-      (λ e. rw e (strandlike-filter hasCalls (inJoinOrder p q (strandGroup mode p ev seq) (strandGroup mode q ew seq)) both-strands))
+      (λ e. rw e (strandlike-filter hasCalls (map (groupOf mode seq) (inJoinOrder strands)) (all-strands (inJoinOrder strands))))
       (λ e. rw e tt)
 
-  -- What is built for two strands, where it has a call, says exactly the calls of both, C to T first.
-  pub joined-says : (lent : List ℕ) → isEmpty (joinedGroups mode p ev q ew seq) ≡ false
-      → Says ml? seq (joinedTag mode p ev q ew seq .text) (cond ml? (joinedTag mode p ev q ew seq .ml) lent) (joinedListings ml? mode p ev q ew seq)
+  -- What is built for strands, where it has a call, says exactly the calls of all, C to T first.
+  pub joined-says : (strands : List Strand) (lent : List ℕ) → isEmpty (joinedGroups mode strands seq) ≡ false
+      → Says ml? seq (joinedTag mode strands seq .text) (cond ml? (joinedTag mode strands seq .ml) lent) (joinedListings ml? mode strands seq)
   unfolding joinedTag
-  joined-says lent e =
-      groups-say ml? seq (joinedGroups mode p ev q ew seq) (cond ml? (joinedTag mode p ev q ew seq .ml) lent) (joinedListings ml? mode p ev q ew seq)
-      joined-strands (joined-list ml? mode p ev q ew seq u) u (joined-no-u ml? mode p ev q ew seq u) (joined-is-read ml? mode p ev q ew seq u lent e)
+  joined-says strands lent e =
+      groups-say ml? seq (joinedGroups mode strands seq) (cond ml? (joinedTag mode strands seq .ml) lent) (joinedListings ml? mode strands seq)
+      (joined-strands strands) (joined-list ml? mode seq u strands) u (joined-no-u ml? mode strands seq) (joined-is-read ml? mode seq u strands lent e)

@@ -134,7 +134,7 @@ abbrev pub seen : List ℕ → Evidence
 seen informative = record { informative = informative; unconverted = 2 ∷ 2 ∷ []; converted = 1 ∷ 0 ∷ [] }
 
 pub join-example :
-    joinedTag EmSeq GToA (seen (0 ∷ 1 ∷ [])) CToT (seen (1 ∷ 0 ∷ [])) (ascii "CG")
+    joinedTag EmSeq (record { pattern = GToA; evidence = seen (0 ∷ 1 ∷ []) } ∷ record { pattern = CToT; evidence = seen (1 ∷ 0 ∷ []) } ∷ []) (ascii "CG")
     ≡ record { text = ascii "C+m?,0;G-m?,0;"; ml = 170 ∷ 255 ∷ [] }
 unfolding joinedTag
 join-example = refl

@@ -4,7 +4,9 @@ pub mod Text
 pub mod ReadWritten
 pub mod Read
 pub mod SameText
+pub mod Skips
 pub mod Length
+pub mod Behind
 pub mod Tally
 pub mod Places
 pub mod Steps
@@ -17,6 +19,12 @@ pub mod OneMeaning
 pub mod ReadMeans
 pub mod MeantIsRead
 pub mod Building
+pub mod Room
+pub mod OwnTag
+pub mod Longest
 pub mod BuiltSays
 pub mod Masking
+pub mod Kept
 pub mod MlValue
+pub mod SameEdit
+pub mod Taken

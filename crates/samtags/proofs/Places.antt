@@ -26,7 +26,7 @@ places-length t i (x ∷ xs) =
     by-test (t x) (λ e. rw e (omega (arith, places-length t (suc i) xs))) (λ e. rw e (omega (arith, places-length t (suc i) xs)))
 
 -- the byte at each passes
-places-pass : (t : ℕ → Bool) (i : ℕ) (xs whole : List ℕ) → drop i whole ≡ xs → Agree (λ p. t (getD whole p 0)) (λ p. true) (placesFrom t i xs)
+pub places-pass : (t : ℕ → Bool) (i : ℕ) (xs whole : List ℕ) → drop i whole ≡ xs → Agree (λ p. t (getD whole p 0)) (λ p. true) (placesFrom t i xs)
 places-pass t i [] whole e = tt
 places-pass t i (x ∷ xs) whole e =
     let rest = places-pass t (suc i) xs whole (drop-step i whole e) in

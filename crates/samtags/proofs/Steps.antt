@@ -70,7 +70,7 @@ pub place-unlist : (named : ℕ → Bool) (s : Spot) → placeOf (unlist named s
 place-unlist named (bare p) = refl
 place-unlist named (call p vs) = by-test (named p) (λ e. rw e) (λ e. rw e)
 
-places-unlist : (named : ℕ → Bool) (ss : List Spot) → map placeOf (map (unlist named) ss) ≡ map placeOf ss
+pub places-unlist : (named : ℕ → Bool) (ss : List Spot) → map placeOf (map (unlist named) ss) ≡ map placeOf ss
 places-unlist named [] = refl
 places-unlist named (s ∷ ss) = rw (place-unlist named s, places-unlist named ss)
 

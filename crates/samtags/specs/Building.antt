@@ -2,7 +2,7 @@
 -- Assumes nothing.
 use Prim.Native.Nat.{ℕ, suc, _+_, _*_, _/_, min}
 use mathlib.Core.Bool.{Bool, true, false, cond, not, _&&_}
-use mathlib.Core.List.{List, [], _∷_, map}
+use mathlib.Core.List.{List, [], _∷_, _++_, map}
 use mathlib.Core.Option.{Option, none, some}
 use lib.ListN.{length, getD}
 use lib.Dec.{leb, eqb}
@@ -26,6 +26,9 @@ pub record Evidence : Type 0 where
   pub unconverted : List ℕ
   pub converted : List ℕ
 
+abbrev pub columns : List ℕ → List ℕ → List ℕ → Evidence
+columns informative unconverted converted = record { informative = informative; unconverted = unconverted; converted = converted }
+
 -- the reads that speak for methylation: in EM-Seq what stayed unconverted, in TAPs what was converted
 abbrev pub numerator : MethylationMode → ℕ → ℕ → ℕ
 numerator Disabled u c = 0
@@ -36,13 +39,15 @@ numerator Taps u c = c
 unfoldable pub mlValue : ℕ → ℕ → ℕ
 mlValue speaking total = min 255 (256 * speaking / total)
 
--- the ML value of the call at a place, where there is one: the place is informative and a read was counted there
-unfoldable pub calledAt : MethylationMode → Evidence → ℕ → Option ℕ
+-- the ML value of a call, where there is one: the place is informative and a read was counted there
+unfoldable pub called : MethylationMode → ℕ → ℕ → ℕ → Option ℕ
 unfolding mlValue
-calledAt mode ev p =
-    let u = getD (ev .unconverted) p 0 in
-    let c = getD (ev .converted) p 0 in
-    cond (not (eqb (getD (ev .informative) p 0) 0) && not (eqb (u + c) 0)) (some (mlValue (numerator mode u c) (u + c))) none
+called mode informative u c = cond (not (eqb informative 0) && not (eqb (u + c) 0)) (some (mlValue (numerator mode u c) (u + c))) none
+
+-- that of the call at a place
+unfoldable pub calledAt : MethylationMode → Evidence → ℕ → Option ℕ
+unfolding called
+calledAt mode ev p = called mode (getD (ev .informative) p 0) (getD (ev .unconverted) p 0) (getD (ev .converted) p 0)
 
 -- a base of the pattern's letter, listed where the evidence gives a call
 abbrev pub spotAt : Option ℕ → ℕ → Spot
@@ -78,37 +83,54 @@ evidenceAgrees ev seq =
     eqb (length (ev .informative)) (length seq) && eqb (length (ev .unconverted)) (length seq)
     && eqb (length (ev .converted)) (length seq)
 
--- one strand: 1, 2, 20 where there is no call or no chemistry, last 12. Without ML the room for one is not looked at.
-unfoldable pub buildTag : Bool → MethylationMode → ConversionPattern → Evidence → List ℕ → ℕ → ℕ → Outcome Tag
+-- a strand's tag, whatever the room: 1, 2, 20 where there is no call or no chemistry
+unfoldable pub builtTag : MethylationMode → ConversionPattern → Evidence → List ℕ → Outcome Tag
 unfolding strandGroup written
-buildTag ml? mode p ev seq t m =
+builtTag mode p ev seq =
     let g = strandGroup mode p ev seq in
     need (evidenceInDomain ev seq) 1
     (need (evidenceAgrees ev seq) 2
     (need (isEnabled mode && hasCalls g) 20
-    (inRoom ml? t m (done (written (g ∷ []))))))
+    (done (written (g ∷ [])))))
 
--- ---- two strands
+-- into the room lent for it: last 12. Without ML the room for one is not looked at.
+unfoldable pub buildTag : Bool → MethylationMode → ConversionPattern → Evidence → List ℕ → ℕ → ℕ → Outcome Tag
+unfolding builtTag
+buildTag ml? mode p ev seq t m = inRoom ml? t m (builtTag mode p ev seq)
 
--- the second strand's group comes first only where it is C to T and the first one is not
-abbrev pub secondFirst : ConversionPattern → ConversionPattern → Bool
-secondFirst CToT q = false
-secondFirst GToA CToT = true
-secondFirst GToA GToA = false
+-- ---- the strands of a duplex, one or two
 
-abbrev pub inJoinOrder : {A : Type 0} → ConversionPattern → ConversionPattern → A → A → List A
-inJoinOrder p q a b = cond (secondFirst p q) (b ∷ a ∷ []) (a ∷ b ∷ [])
+pub record Strand : Type 0 where
+  pub pattern : ConversionPattern
+  pub evidence : Evidence
+
+abbrev pub convertsC : ConversionPattern → Bool
+convertsC CToT = true
+convertsC GToA = false
+
+abbrev pub isCToT : Strand → Bool
+isCToT s = convertsC (s .pattern)
+
+-- C to T first, and strands of one pattern in the given order
+abbrev pub inJoinOrder : List Strand → List Strand
+inJoinOrder strands = filter isCToT strands ++ filter (λ s. not (isCToT s)) strands
+
+abbrev pub groupOf : MethylationMode → List ℕ → Strand → Group
+groupOf mode seq s = strandGroup mode (s .pattern) (s .evidence) seq
 
 -- the groups of the joined tag: of the strands in order those that have a call; none where there is no chemistry
-unfoldable pub joinedGroups : MethylationMode → ConversionPattern → Evidence → ConversionPattern → Evidence → List ℕ → List Group
+unfoldable pub joinedGroups : MethylationMode → List Strand → List ℕ → List Group
 unfolding strandGroup
-joinedGroups mode p ev q ew seq =
-    cond (isEnabled mode) (filter hasCalls (inJoinOrder p q (strandGroup mode p ev seq) (strandGroup mode q ew seq))) []
+joinedGroups mode strands seq = cond (isEnabled mode) (filter hasCalls (map (groupOf mode seq) (inJoinOrder strands))) []
 
--- the joined tag; no call at all gives an empty text and an empty ML
-unfoldable pub joinedTag : MethylationMode → ConversionPattern → Evidence → ConversionPattern → Evidence → List ℕ → Tag
+-- the joined tag, which for one strand is that strand's own; no call at all gives an empty text and an empty ML
+unfoldable pub joinedTag : MethylationMode → List Strand → List ℕ → Tag
 unfolding joinedGroups written
-joinedTag mode p ev q ew seq = written (joinedGroups mode p ev q ew seq)
+joinedTag mode strands seq = written (joinedGroups mode strands seq)
+
+-- a strand's own tag, which is empty where it has no call
+abbrev pub ownTag : MethylationMode → ConversionPattern → Evidence → List ℕ → Tag
+ownTag mode p ev seq = joinedTag mode (record { pattern = p; evidence = ev } ∷ []) seq
 
 -- ---- the calls that the evidence gives, without a tag: at each place whose base is the pattern's letter and where there is a call, its value
 

@@ -7,7 +7,7 @@ use mathlib.Core.Bool.{Bool, true, cond, not, _&&_, _||_}
 use mathlib.Core.List.{List, [], _∷_, _++_, map}
 use lib.ListN.{length, getD, take, drop}
 use lib.Dec.{leb, eqb}
-use Rattle.lent.specs.Lists.{every, filter, isEmpty, concatMap, among}
+use Rattle.lent.specs.Lists.{every, filter, isEmpty, concatMap, among, sum}
 use Rattle.pattern.specs.Case.{sameInAnyCase}
 use Rattle.samtags.specs.Bytes.{ascii, comma, semicolon, letterN, isDigit}
 use Rattle.samtags.specs.Decimal.{isNumber, value}
@@ -37,10 +37,6 @@ pub record Names (b : ℕ) (seq : List ℕ) (m p : ℕ) : Type 0 where
   pub before : kindBefore b seq p ≡ m
 
 -- ---- a group and its calls
-
-abbrev pub sum : List ℕ → ℕ
-sum [] = 0
-sum (k ∷ ks) = k + sum ks
 
 -- k₀ + .. + kⱼ + j
 abbrev pub ordinal : List ℕ → ℕ → ℕ

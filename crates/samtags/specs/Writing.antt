@@ -2,6 +2,7 @@
 -- Assumes nothing.
 use Prim.Native.Nat.{ℕ, suc}
 use mathlib.Core.List.{List, [], _∷_, _++_}
+use lib.ListN.{length}
 use Rattle.lent.specs.Lists.{concatMap}
 use Rattle.samtags.specs.Bytes.{comma, semicolon}
 use Rattle.samtags.specs.Decimal.{digits}
@@ -39,3 +40,7 @@ mlOf gs = concatMap (λ (g : Group). concatMap valuesOf (g .spots)) gs
 unfoldable pub written : List Group → Tag
 unfolding textOf mlOf
 written gs = record { text = textOf gs; ml = mlOf gs }
+
+-- how many bytes of text and how many values of ML
+abbrev pub sizesOf : Tag → ℕ × ℕ
+sizesOf t = (length (t .text), length (t .ml))

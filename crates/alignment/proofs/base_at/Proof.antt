@@ -7,7 +7,7 @@ use lib.ListN.{length, List·getD-eq-default}
 use lib.IntN.{pos}
 use lib.Signed.{mag}
 use borrow.Author.Needs.{needs}
-use Rattle.alignment.proofs.Signed.{was-negative, was-natural, cast-fits, cast-value}
+use Rattle.cigar.proofs.Signed.{was-negative, was-natural, cast-fits, cast-value}
 use Rattle.alignment.proofs.base_at.Statement.{statement}
 use Rattle.alignment.proofs.base_at.Tie as tie
 

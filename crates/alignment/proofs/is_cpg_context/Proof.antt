@@ -31,8 +31,9 @@ returns-3 c =
     let row = e .before .before .args .ref-seq .now in
     let p = e .before .before .args .pos in
     let next : p - 1 + 1 ≡ p = omega arith in
+    let asked : c .is-pair-at2 .result ≡ holdsAt row (p - 1) 67 && holdsAt row (p - 1 + 1) 71 = c .is-pair-at2 .ensures in
     let pair : c .is-pair-at2 .result ≡ holdsAt row (p - 1) 67 && holdsAt row p 71 =
-    c .is-pair-at2 .ensures ∙ ap (λ (q : ℕ). holdsAt row (p - 1) 67 && holdsAt row q 71) next in
+    asked ∙ ap (λ (q : ℕ). holdsAt row (p - 1) 67 && holdsAt row q 71) next in
     rw (e .if1 .left, le-leb 1 p (omega arith)) (pair ∙ and-comm (holdsAt row (p - 1) 67) (holdsAt row p 71))
 
 pub is-cpg-context-spec : {M : Type 1} → statement M

@@ -11,8 +11,8 @@ use borrow.Author.Tests.{le-leb, lt-leb}
 use mir.Facts.{toZ-ofZ}
 use Rattle.lent.specs.Outcome.{done, refused, refusal, says}
 use Rattle.lent.proofs.Filled.{leaves-done, leaves-refused}
-use Rattle.alignment.specs.Cigar.{startOf, checked, readPlaces}
-use Rattle.alignment.specs.Walk.{outset}
+use Rattle.cigar.specs.Cigar.{startOf, checked, readPlaces}
+use Rattle.walking.specs.Walk.{outset}
 use Rattle.alignment.proofs.Checked.{checked-start, checked-bases, checked-end, checked-reach}
 use Rattle.alignment.proofs.Mirror.{length-read-places, read-is-walked}
 use Rattle.alignment.proofs.query_to_ref_positions.Statement.{statement}
@@ -54,7 +54,8 @@ returns c =
     let a = k .before .before .args in
     let g = c .enum-told .given in
     let e : checked (a .cigar .now) (a .alignment-start) ≡ refused (g .0 .0) = sym (answered k) ∙ ap says (g .1) in
-    (ap says (g .1) ∙ rw e, rw e (sym (leaves-refused (λ (l : List ℤ). l) (g .0 .0) (a .positions .now))))
+    let said : says (k .check .result) ≡ refused (g .0 .0) = ap says (g .1) in
+    (rw e said, rw e (sym (leaves-refused (λ (l : List ℤ). l) (g .0 .0) (a .positions .now))))
 
 returns-2 : tie.Need-returns-2
 returns-2 c =

@@ -8,9 +8,11 @@ use lib.ListN.{length, take, drop, length-take, length-drop}
 use Rattle.lent.specs.Outcome.{Outcome, says}
 use Rattle.pattern.specs.Patterns.{basesOf}
 use Rattle.evidence.specs.Position.{capped}
-use Rattle.rows.specs.Reads.{yesByte, readsOf, informativeAt, basesAt, howMany, informativeColumn, unconvertedColumn, convertedColumn, annotated}
-use Rattle.rows.proofs.Tabulate.{length-tabulate, length-front, front-filled}
-use Rattle.annotation.proofs.Leaves.{said-done, refused-leaves, done-leaves}
+use Rattle.columns.specs.Columns.{yesByte, informativeAt, informativeColumn}
+use Rattle.counting.specs.Reads.{readsOf, basesAt, howMany, unconvertedColumn, convertedColumn}
+use Rattle.refusals.specs.Refusals.{annotated}
+use Rattle.lent.proofs.Tabulate.{length-tabulate, length-front, front-filled}
+use Rattle.lent.proofs.Leaves.{said-done, refused-leaves, done-leaves}
 use Rattle.annotation.proofs.Outcomes.{Annotated, annotated-done}
 use Rattle.annotation.proofs.annotate_simplex_methylation.Statement.{statement}
 use Rattle.annotation.proofs.annotate_simplex_methylation.Tie as tie

@@ -5,10 +5,9 @@ use Prim.Native.Nat.{ℕ}
 use native.Mathlib.Omega.{arith}
 use borrow.Author.Needs.{needs}
 use lib.ListN.{length}
-use Rattle.rows.specs.Reads.{isYes}
-use Rattle.rows.specs.Columns.{gatedCounts}
-use Rattle.rows.proofs.Tabulate.{length-zip}
-use Rattle.annotation.proofs.Leaves.{said-done, refused-leaves, done-leaves-all}
+use Rattle.columns.specs.Columns.{isYes, gatedCounts}
+use Rattle.lent.proofs.Tabulate.{length-zip}
+use Rattle.lent.proofs.Leaves.{said-done, refused-leaves, done-leaves-all}
 use Rattle.annotation.proofs.Outcomes.{Columns, columns-done}
 use Rattle.annotation.proofs.gate_to_informative.Statement.{statement}
 use Rattle.annotation.proofs.gate_to_informative.Tie as tie

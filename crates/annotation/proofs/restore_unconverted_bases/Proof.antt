@@ -7,10 +7,9 @@ use borrow.Author.Needs.{needs}
 use lib.ListN.{length}
 use Rattle.pattern.specs.Case.{sameInAnyCase}
 use Rattle.pattern.specs.Patterns.{basesOf}
-use Rattle.rows.specs.Reads.{isYes}
-use Rattle.rows.specs.Columns.{restored}
-use Rattle.rows.proofs.Tabulate.{length-zip}
-use Rattle.annotation.proofs.Leaves.{said-done, refused-leaves, done-leaves-all}
+use Rattle.columns.specs.Columns.{isYes, restored}
+use Rattle.lent.proofs.Tabulate.{length-zip}
+use Rattle.lent.proofs.Leaves.{said-done, refused-leaves, done-leaves-all}
 use Rattle.annotation.proofs.Outcomes.{Restorable, restorable-done}
 use Rattle.annotation.proofs.restore_unconverted_bases.Statement.{statement}
 use Rattle.annotation.proofs.restore_unconverted_bases.Tie as tie

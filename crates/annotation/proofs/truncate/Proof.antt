@@ -8,9 +8,10 @@ use borrow.Author.Needs.{needs}
 use lib.ListN.{length, take, length-take, length-drop}
 use Rattle.lent.specs.Outcome.{Outcome, says}
 use Rattle.lent.specs.Filled.{over}
-use Rattle.rows.specs.Columns.{asYes, truncated}
-use Rattle.rows.proofs.Tabulate.{front-is}
-use Rattle.annotation.proofs.Leaves.{said-done, refused-leaves, done-leaves}
+use Rattle.columns.specs.Columns.{asYes}
+use Rattle.refusals.specs.Refusals.{truncated}
+use Rattle.lent.proofs.Tabulate.{front-is}
+use Rattle.lent.proofs.Leaves.{said-done, refused-leaves, done-leaves}
 use Rattle.annotation.proofs.Outcomes.{Truncated, truncated-done}
 use Rattle.annotation.proofs.truncate.Statement.{statement}
 use Rattle.annotation.proofs.truncate.Tie as tie

@@ -3,8 +3,8 @@
 use Prim.Native.Nat.{ℕ}
 use native.Mathlib.Omega.{arith}
 use borrow.Author.Needs.{needs}
-use Rattle.rows.specs.Columns.{asTagCounts}
-use Rattle.annotation.proofs.Leaves.{said-done, refused-leaves, done-leaves}
+use Rattle.columns.specs.Columns.{asTagCounts}
+use Rattle.lent.proofs.Leaves.{said-done, refused-leaves, done-leaves}
 use Rattle.annotation.proofs.Outcomes.{counts-in-room-done}
 use Rattle.annotation.proofs.unconverted_counts.Statement.{statement}
 use Rattle.annotation.proofs.unconverted_counts.Tie as tie

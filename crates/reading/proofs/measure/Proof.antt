@@ -13,7 +13,8 @@ use Rattle.samtags.specs.Reading.{nowhere, readGroups}
 use Rattle.samtags.specs.Spots.{Group}
 use Rattle.samtags.specs.Text.{closedBy}
 use Rattle.reading.proofs.AnswerLaws.{measured}
-use Rattle.reading.proofs.CheckLaws.{four, one-ml, one-seq, one-text, read-on, taken-few, taken-is, tested, three}
+use Rattle.samtags.proofs.Taken.{taken-few, taken-is}
+use Rattle.reading.proofs.CheckLaws.{four, one-ml, one-seq, one-text, read-on, tested, three}
 use Rattle.reading.proofs.measure.Statement.{statement}
 use Rattle.reading.specs.Measured.{TagMeasured}
 use Rattle.scanning.specs.Scanning.{columns}

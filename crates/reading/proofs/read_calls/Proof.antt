@@ -13,7 +13,8 @@ use Rattle.samtags.specs.Reading.{callList, nowhere, readGroups, readTag}
 use Rattle.samtags.specs.Spots.{Group, listing}
 use Rattle.samtags.specs.Text.{closedBy}
 use Rattle.reading.proofs.AnswerLaws.{calls-done, calls-refused, scanned-rows, short-groups, short-places, short-starts, tag-known, tag-refused}
-use Rattle.reading.proofs.CheckLaws.{passed, taken-few, taken-is, tested}
+use Rattle.samtags.proofs.Taken.{taken-few, taken-is}
+use Rattle.reading.proofs.CheckLaws.{passed, tested}
 use Rattle.reading.proofs.read_calls.Statement.{statement}
 use Rattle.reading.specs.Calls.{callsRead, countsOf}
 use Rattle.reading.specs.Measured.{TagMeasured}

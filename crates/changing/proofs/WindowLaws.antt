@@ -1,0 +1,144 @@
+-- Whether a cut is one, byte by byte; and the three edits as one: a mask and a drop are windows that cut nothing off.
+-- Assumes nothing.
+use mathlib.Core.Path.{_≡_, refl, sym, ap, _∙_}
+use Prim.Native.Nat.{ℕ, zero, suc, _+_, _-_, _≤_, _<_}
+use native.Mathlib.Nat.{sub-zero}
+use native.Mathlib.Omega.{arith}
+use mathlib.Core.Bool.{Bool, true, false, _&&_, _||_}
+use mathlib.Core.List.{List, [], _∷_}
+use lib.Dec.{eqb}
+use lib.ListN.{length, getD, drop, drop-of-length-le, replicate, set, length-set}
+use lib.Seq.{getD-set-other, getD-set-same}
+use borrow.Author.Tests.{eq-eqb, eqb-false, eqb-true, ne-eqb}
+use Rattle.lent.proofs.Lists.{Agree, agree-all, agree-imp, drop-here}
+use Rattle.lent.proofs.Tests.{by-test}
+use Rattle.lent.specs.Lists.{among}
+use Rattle.samtags.proofs.Places.{inside-true, places-pass, tracked-inside}
+use Rattle.samtags.proofs.SameEdit.{edited-same}
+use Rattle.samtags.specs.Edits.{cutTo, droppingAt, edited, isMasked, liesIn, maskedTo, sameBytes}
+use Rattle.samtags.specs.Meaning.{inside}
+use Rattle.samtags.specs.Reading.{nowhere}
+use Rattle.samtags.specs.Spots.{holds, tracked}
+use Rattle.changing.proofs.EntryLaws.{held-inside}
+use Rattle.changing.specs.Windows.{heldIn, isMarked, markedAt, windowEdit}
+
+-- ---- the same bytes
+
+pub same-lengths : (a b : List ℕ) → (length a ≡ length b → ⊥) → sameBytes a b ≡ false
+same-lengths [] [] h = absurd (h refl)
+same-lengths [] (y ∷ b) h = refl
+same-lengths (x ∷ a) [] h = refl
+same-lengths (x ∷ a) (y ∷ b) h = rw (same-lengths a b (λ e. h (ap suc e))) (by-test (eqb x y) (λ e. rw e) (λ e. rw e))
+
+module _ (a b : List ℕ) (i : ℕ) where
+  pub same-end : length a ≤ i → length b ≤ i → sameBytes (drop i a) (drop i b) ≡ true
+  same-end h k = rw (drop-of-length-le a h, drop-of-length-le b k)
+
+  module _ (h : i < length a) (k : i < length b) where
+    pub same-on : getD a i 0 ≡ getD b i 0 → sameBytes (drop i a) (drop i b) ≡ sameBytes (drop (i + 1) a) (drop (i + 1) b)
+    same-on e = rw (drop-here a i 0 h, drop-here b i 0 k, eq-eqb (getD a i 0) (getD b i 0) e)
+
+    pub same-stop : (getD a i 0 ≡ getD b i 0 → ⊥) → sameBytes (drop i a) (drop i b) ≡ false
+    same-stop e = rw (drop-here a i 0 h, drop-here b i 0 k, ne-eqb (getD a i 0) (getD b i 0) e)
+
+-- ---- a window
+
+pub lies-short : (after seq : List ℕ) → length seq < length after → liesIn after seq ≡ false
+lies-short [] seq h = absurd (omega arith)
+lies-short (x ∷ xs) [] h = refl
+lies-short (x ∷ xs) (y ∷ ys) h = rw (lies-short xs ys (omega arith)) (by-test (eqb x y || isMasked x) (λ e. rw e) (λ e. rw e))
+
+module _ (after seq : List ℕ) (lo i : ℕ) where
+  pub lies-end : length after ≤ i → liesIn (drop i after) (drop (lo + i) seq) ≡ true
+  lies-end h = rw (drop-of-length-le after h)
+
+  module _ (h : i < length after) (k : lo + i < length seq) where
+    here : liesIn (drop i after) (drop (lo + i) seq)
+        ≡ (eqb (getD after i 0) (getD seq (lo + i) 0) || isMasked (getD after i 0)) && liesIn (drop (i + 1) after) (drop (lo + (i + 1)) seq)
+    here =
+        let sum : lo + i + 1 ≡ lo + (i + 1) = omega arith in
+        rw (drop-here after i 0 h, drop-here seq (lo + i) 0 k, sum)
+
+    pub lies-on : eqb (getD after i 0) (getD seq (lo + i) 0) || isMasked (getD after i 0) ≡ true
+        → liesIn (drop i after) (drop (lo + i) seq) ≡ liesIn (drop (i + 1) after) (drop (lo + (i + 1)) seq)
+    lies-on e = here ∙ rw e
+
+    pub lies-stop : eqb (getD after i 0) (getD seq (lo + i) 0) || isMasked (getD after i 0) ≡ false
+        → liesIn (drop i after) (drop (lo + i) seq) ≡ false
+    lies-stop e = here ∙ rw e
+
+-- ---- marks
+
+pub unmarked-row : (n p : ℕ) → isMarked (replicate n 0) p ≡ false
+unfolding isMarked
+unmarked-row zero p = refl
+unmarked-row (suc n) zero = refl
+unmarked-row (suc n) (suc p) = unmarked-row n p
+
+one-mark : (marks : List ℕ) (q p : ℕ) → p < length marks → isMarked (set marks q 1) p ≡ eqb q p || isMarked marks p
+unfolding isMarked
+one-mark marks q p h =
+    by-test (eqb q p)
+    (λ e. let s : q ≡ p = eqb-true q p e in rw (e, s, getD-set-same marks p 1 0 h))
+    (λ e. rw (e, getD-set-other marks q p 1 0 (λ s. eqb-false q p e (sym s))))
+
+pub marked-at : (places marks : List ℕ) (p : ℕ) → p < length marks → isMarked (markedAt places marks) p ≡ among places p || isMarked marks p
+marked-at [] marks p h = refl
+marked-at (q ∷ ps) marks p h =
+    marked-at ps (set marks q 1) p (simp length-set h)
+    ∙ rw (one-mark marks q p h)
+    (by-test (eqb q p)
+    (λ e. rw e (by-test (among ps p) (λ t. rw t) (λ t. rw t)))
+    (λ e. rw e))
+
+-- ---- the three edits
+
+-- where two tests pass at each place
+agree-both : (s t u v : ℕ → Bool) (ps : List ℕ) → Agree s (λ p. true) ps → Agree t (λ p. true) ps
+    → ((p : ℕ) → s p ≡ true → t p ≡ true → u p ≡ v p) → Agree u v ps
+agree-both s t u v [] a b f = tt
+agree-both s t u v (p ∷ ps) a b f = (f p (a .0) (b .0), agree-both s t u v ps (a .1) (b .1) f)
+
+unmarked-none : (p : ℕ) → isMarked [] p ≡ false
+unfolding isMarked
+unmarked-none p = refl
+
+-- inside a row that cuts nothing off
+whole : (after : List ℕ) (b n p : ℕ) → n ≤ length after → inside 0 n p ≡ true → heldIn 0 after b p ≡ holds b (getD after p 0)
+whole after b n p l i =
+    let w = inside-true 0 n p i in
+    let low : p - 0 < length after = omega (arith, w .1) in
+    held-inside 0 after b p (w .0) low ∙ rw (sub-zero p)
+
+module _ (ml? : Bool) (seq text ml : List ℕ) where
+  pub mask-is : (after : List ℕ) → length seq ≡ length after → edited (maskedTo after) ml? seq text ml ≡ edited (windowEdit 0 after []) ml? seq text ml
+  unfolding maskedTo
+  mask-is after h =
+      edited-same (maskedTo after) (windowEdit 0 after []) ml? seq
+      (λ b. agree-imp (inside 0 (length seq)) (λ p. true) (λ p. holds b (getD after p 0)) (heldIn 0 after b)
+      (λ p i. sym (whole after b (length seq) p (omega arith) i)) (tracked b seq) (tracked-inside b seq))
+      (λ b. agree-all nowhere (isMarked []) (λ p. sym (unmarked-none p)) (tracked b seq))
+      text ml
+
+  pub cut-is : (lo : ℕ) (after : List ℕ) → edited (cutTo lo after) ml? seq text ml ≡ edited (windowEdit lo after []) ml? seq text ml
+  unfolding cutTo heldIn
+  cut-is lo after =
+      edited-same (cutTo lo after) (windowEdit lo after []) ml? seq
+      (λ b. agree-all (cutTo lo after .stillHeld b) (heldIn lo after b) (λ p. refl) (tracked b seq))
+      (λ b. agree-all nowhere (isMarked []) (λ p. sym (unmarked-none p)) (tracked b seq))
+      text ml
+
+  pub drop-is : (places marks : List ℕ) → length seq ≤ length marks → ((p : ℕ) → isMarked marks p ≡ false)
+      → edited (droppingAt places) ml? seq text ml ≡ edited (windowEdit 0 seq (markedAt places marks)) ml? seq text ml
+  unfolding droppingAt tracked
+  drop-is places marks h none =
+      edited-same (droppingAt places) (windowEdit 0 seq (markedAt places marks)) ml? seq
+      (λ b. agree-both (inside 0 (length seq)) (λ p. holds b (getD seq p 0)) (λ p. true) (heldIn 0 seq b) (tracked b seq)
+      (tracked-inside b seq) (places-pass (holds b) 0 seq seq refl)
+      (λ p i k. sym (whole seq b (length seq) p (omega arith) i ∙ k)))
+      (λ b. agree-imp (inside 0 (length seq)) (λ p. true) (among places) (isMarked (markedAt places marks))
+      (λ p i. named p (inside-true 0 (length seq) p i .1)) (tracked b seq) (tracked-inside b seq))
+      text ml
+    where
+      named : (p : ℕ) → p < 0 + length seq → among places p ≡ isMarked (markedAt places marks) p
+      named p l = sym (marked-at places marks p (omega arith) ∙ rw (none p) (by-test (among places p) (λ t. rw t) (λ t. rw t)))

@@ -1,0 +1,79 @@
+-- `mark_places`: the places that are left, marked in the row as it is, give what all of them give in the row as it was.
+-- Assumes nothing.
+use mathlib.Core.Path.{_∙_, _≡_, ap, refl, sym}
+use Prim.Native.Nat.{_+_, _-_, _≤_, ℕ}
+use native.Mathlib.Omega.{arith}
+use mathlib.Core.List.{List}
+use lib.ListN.{drop, drop-of-length-le, getD, length, set}
+use borrow.Author.Needs.{needs}
+use Rattle.changing.specs.Windows.{markedAt}
+use Rattle.lent.proofs.Lists.{drop-here}
+use Rattle.changing.proofs.changes.mark_places.Statement.{statement}
+use Rattle.changing.proofs.changes.mark_places.Tie as tie
+
+abbrev Inv-loop : tie.InvT-loop
+Inv-loop places marks₀ i₀ marks i =
+    (i ≤ length places) × (markedAt places marks₀ ≡ markedAt (drop i places) marks) × (length marks ≡ length marks₀)
+
+abbrev μ-loop : tie.MeasureT-loop
+μ-loop places marks₀ i₀ marks i = length places - i
+
+loop-holds : tie.Need-loop-holds Inv-loop μ-loop
+loop-holds c = (omega arith, refl, refl)
+
+mul-put : tie.Need-mul-put Inv-loop μ-loop
+mul-put c = omega arith
+
+shared-slice-read-put : tie.Need-shared-slice-read-put Inv-loop μ-loop
+shared-slice-read-put c = omega arith
+
+cast-put : tie.Need-cast-put Inv-loop μ-loop
+cast-put c = omega (arith, c .shared-slice-known2 .given (c .before .before .before .loop .i))
+
+put-requires : tie.Need-put-requires Inv-loop μ-loop
+put-requires c κs = search needs
+
+add-i : tie.Need-add-i Inv-loop μ-loop
+add-i c = omega arith
+
+loop-less : tie.Need-loop-less Inv-loop μ-loop
+loop-less c = omega arith
+
+loop-again : tie.Need-loop-again Inv-loop μ-loop
+loop-again c =
+    let h = c .before .before .before .before .before .before .loop in
+    let a = c .before .before .before .before .before .before .before .before .before .args in
+    let p = c .before .before .put in
+    let on : markedAt (drop (h .i) (a .places .now)) (h .marks) ≡ markedAt (drop (h .i + 1) (a .places .now)) (set (h .marks) (getD (a .places .now)
+    (h .i) 0) 1) =
+    ap (λ (ps : List ℕ). markedAt ps (h .marks)) (drop-here (a .places .now) (h .i) 0 (omega arith)) in (
+      omega arith,
+      h .inv .1 ∙ on ∙ ap (markedAt (drop (h .i + 1) (a .places .now))) (sym (p .ensures)),
+      p .kept .0 ∙ h .inv .2,
+    )
+
+same-length : tie.Need-same-length Inv-loop μ-loop
+same-length c = omega arith
+
+returns : tie.Need-returns Inv-loop μ-loop
+returns c =
+    let h = c .before .loop in
+    let a = c .before .before .before .before .args in
+    sym (h .inv .1 ∙ ap (λ (ps : List ℕ). markedAt ps (h .marks)) (drop-of-length-le (a .places .now) (c .loop-test .left)))
+
+pub mark-places-spec : {M : Type 1} → statement M
+mark-places-spec =
+    tie.close
+    (tie.spec
+    Inv-loop
+    μ-loop
+    loop-holds
+    mul-put
+    shared-slice-read-put
+    cast-put
+    put-requires
+    add-i
+    loop-less
+    loop-again
+    same-length
+    returns)

@@ -1,0 +1,114 @@
+-- `pass_tracked`: as many of the group's bases are left to pass as `skip` is ahead of the ordinal, and those that were passed are counted.
+-- Assumes nothing.
+use mathlib.Core.Path.{_∙_, _≡_, ap, sym}
+use Prim.Native.Nat.{_+_, _-_, _≤_, ℕ}
+use native.Mathlib.Omega.{arith}
+use mathlib.Core.Bool.{Bool, cond}
+use mathlib.Core.Logic.{⊎-elim}
+use lib.ListN.{length}
+use borrow.Author.Needs.{needs}
+use Rattle.changing.proofs.EntryLaws.{one-at-most, passing-at, passing-end, passing-miss, passing-on}
+use Rattle.changing.specs.Drafts.{passing}
+use Rattle.changing.specs.Windows.{heldIn}
+use Rattle.tagtext.specs.Walk.{trackedFrom}
+use Rattle.changing.proofs.entries.pass_tracked.Statement.{statement}
+use Rattle.changing.proofs.entries.pass_tracked.Tie as tie
+
+abbrev Inv-loop : tie.InvT-loop
+Inv-loop seq after lo base skip ordinal₀ held₀ pos₀ ordinal held pos =
+    (pos .0 ≤ length seq) × (ordinal .0 ≤ skip .0) × (ordinal .0 ≤ pos .0) × (held .0 ≤ ordinal .0)
+    × (passing (heldIn lo after base) 0 (skip .0) (trackedFrom base (pos₀ .0) seq)
+    ≡ passing (heldIn lo after base) (held .0) (skip .0 - ordinal .0) (trackedFrom base (pos .0) seq))
+
+abbrev μ-loop : tie.MeasureT-loop
+μ-loop seq after lo base skip ordinal₀ held₀ pos₀ ordinal held pos = length seq - pos .0
+
+loop-holds : tie.Need-loop-holds Inv-loop μ-loop
+loop-holds c =
+    let z : c .before .before .args .skip .0 - 0 ≡ c .before .before .args .skip .0 = omega arith in
+    (omega arith, omega arith, omega arith, omega arith, rw z)
+
+shared-slice-read-counts : tie.Need-shared-slice-read-counts Inv-loop μ-loop
+shared-slice-read-counts c = omega arith
+
+counts-requires : tie.Need-counts-requires Inv-loop μ-loop
+counts-requires c κs = search needs
+
+returns : tie.Need-returns Inv-loop μ-loop
+returns c =
+    let h = c .before .before .before .before .before .before .before .before .loop in
+    let a = c .before .before .before .before .before .before .before .before .before .before .before .args in
+    sym (h .inv .4 ∙ passing-at (heldIn (a .lo) (a .after .now) (a .base)) (a .base) (a .seq .now) (h .pos .0) (h .held .0) (a .skip .0 -
+    h .ordinal .0)
+    (omega arith) (sym (c .before .before .before .before .counts .ensures) ∙ c .before .before .before .if2 .taken) (omega arith))
+
+add-t18 : tie.Need-add-t18 Inv-loop μ-loop
+add-t18 c = omega arith
+
+still-held-requires : tie.Need-still-held-requires Inv-loop μ-loop
+still-held-requires c κs = search needs
+
+one-more-requires : tie.Need-one-more-requires Inv-loop μ-loop
+one-more-requires c κs = omega arith
+
+add-t13 : tie.Need-add-t13 Inv-loop μ-loop
+add-t13 c = omega arith
+
+loop-less : tie.Need-loop-less Inv-loop μ-loop
+loop-less c = omega arith
+
+loop-again : tie.Need-loop-again Inv-loop μ-loop
+loop-again c =
+    let h = c .before .before .before .before .before .loop in
+    let a = c .before .before .before .before .before .before .before .before .args in
+    let i = h .pos .0 in
+    let n = a .skip .0 - h .ordinal .0 in
+    let held = heldIn (a .lo) (a .after .now) (a .base) in
+    ⊎-elim
+    (λ w.
+    let counted : w .6 .result .0 ≡ h .held .0 + cond (w .5 .result) 1 0 = w .6 .ensures in
+    let one : w .6 .result .0 ≡ h .held .0 + cond (held i) 1 0 = counted ∙ ap (λ (t : Bool). h .held .0 + cond t 1 0) (w .5 .ensures) in
+    rw (w .7, w .8) (
+      omega arith,
+      omega (arith, w .3 .left),
+      omega arith,
+      omega (arith, one, one-at-most (held i)),
+      h .inv .4 ∙ passing-on held (a .base) (a .seq .now) i (h .held .0) n (omega arith) (sym (c .before .counts .ensures) ∙ w .0 .taken)
+          (a .skip .0 - (h .ordinal .0 + 1)) (omega (arith, w .3 .left))
+          ∙ ap (λ (m : ℕ). passing held m (a .skip .0 - (h .ordinal .0 + 1)) (trackedFrom (a .base) (i + 1) (a .seq .now))) (sym one),
+    ))
+    (λ w. rw (w .1, w .2) (
+      omega arith,
+      omega arith,
+      omega arith,
+      omega arith,
+      h .inv .4 ∙ passing-miss held (a .base) (a .seq .now) i (h .held .0) n (omega arith)
+          (sym (c .before .counts .ensures) ∙ w .0 .left),
+    ))
+    (c .if2 .came)
+
+returns-2 : tie.Need-returns-2 Inv-loop μ-loop
+returns-2 c =
+    let h = c .before .before .loop in
+    let a = c .before .before .before .before .before .args in
+    sym (h .inv .4 ∙ passing-end (heldIn (a .lo) (a .after .now) (a .base)) (a .base) (a .seq .now) (h .pos .0) (h .held .0) (a .skip .0 -
+    h .ordinal .0)
+    (omega arith))
+
+pub pass-tracked-spec : {M : Type 1} → statement M
+pass-tracked-spec =
+    tie.close
+    (tie.spec
+    Inv-loop
+    μ-loop
+    loop-holds
+    shared-slice-read-counts
+    counts-requires
+    returns
+    add-t18
+    still-held-requires
+    one-more-requires
+    add-t13
+    loop-less
+    loop-again
+    returns-2)

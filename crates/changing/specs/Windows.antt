@@ -1,0 +1,35 @@
+-- One kind of edit serves all three: SEQ became `after`, which begins at place lo, and the calls at the marked places are dropped.
+-- Assumes nothing.
+use Prim.Native.Nat.{ℕ, _+_, _-_}
+use mathlib.Core.Path.{_≡_}
+use mathlib.Core.Bool.{Bool, false, not, _&&_}
+use mathlib.Core.List.{List, [], _∷_}
+use lib.ListN.{length, getD, set}
+use lib.Dec.{leb, ltb, eqb}
+use Rattle.samtags.specs.Spots.{holds}
+use Rattle.samtags.specs.Edits.{Edit}
+
+-- the place p still holds the base b
+unfoldable pub heldIn : ℕ → List ℕ → ℕ → ℕ → Bool
+unfolding holds
+heldIn lo after b p = leb lo p && ltb p (lo + length after) && holds b (getD after (p - lo) 0)
+
+-- the mark at p is not 0; past the row's end there is none
+unfoldable pub isMarked : List ℕ → ℕ → Bool
+isMarked marks p = not (eqb (getD marks p 0) 0)
+
+-- a marked place, in a group that may lose no call
+abbrev pub deniedIn : List ℕ → Bool → ℕ → Bool
+deniedIn marks mayDrop p = isMarked marks p && not mayDrop
+
+abbrev pub windowEdit : ℕ → List ℕ → List ℕ → Edit
+windowEdit lo after marks = record { stillHeld = heldIn lo after; dropped = isMarked marks }
+
+-- a row as long as SEQ may be, with no mark
+abbrev pub Unmarked : List ℕ → Type 0
+Unmarked marks = (16000 ≡ length marks) × ((p : ℕ) → isMarked marks p ≡ false)
+
+-- a row with a mark at each place of a list, as far as the row reaches
+abbrev pub markedAt : List ℕ → List ℕ → List ℕ
+markedAt [] marks = marks
+markedAt (p ∷ ps) marks = markedAt ps (set marks p 1)

@@ -1,0 +1,59 @@
+// The one kind of edit: SEQ became `after`, which begins at place `lo` of what it was, and the calls at the marked places are dropped.
+ghost use mathlib.Core.Path.{_≡_};
+ghost use Rattle.changing.specs.Windows.{heldIn, isMarked, deniedIn, Unmarked, markedAt};
+use tagtext::places::Place;
+use tagtext::places::counts;
+
+// The base at a place is still of its kind.
+pub fn still_held(base: u8, after: &[u8], lo: usize, place: Place) -> bool
+    ensures { λ r. ⌜ r ≡ heldIn lo (now (after .entry)) base (place .0) ⌝ }
+{
+    let p = place.0;
+    if p < lo {
+        return false;
+    }
+    let d = p - lo;
+    if after.len() <= d {
+        return false;
+    }
+    counts(base, after[d])
+}
+
+// The call at a place is to be dropped. Past the row's end no place is marked.
+pub fn is_named(marks: &[u8], place: Place) -> bool
+    ensures { λ r. ⌜ r ≡ isMarked (now (marks .entry)) (place .0) ⌝ }
+{
+    let p = place.0;
+    if marks.len() <= p {
+        return false;
+    }
+    marks[p] != 0
+}
+
+// A group that may lose no call lists one at a place that is to be dropped: with the call gone, its silence would say "unmodified".
+pub fn is_denied(marks: &[u8], may_drop: bool, place: Place) -> bool
+    ensures { λ r. ⌜ r ≡ deniedIn (now (marks .entry)) «may_drop» (place .0) ⌝ }
+{
+    if may_drop {
+        return false;
+    }
+    is_named(marks, place)
+}
+
+// A row as long as SEQ may be, with no mark.
+pub fn no_marks() -> [u8; 16000]
+    ensures { λ r. ⌜ Unmarked r ⌝ }
+{
+    [0; 16000]
+}
+
+// Marks the places of a list, of any length and order; those past the row's end do nothing.
+pub fn mark_places(places: &[u32], marks: &mut [u8])
+    ensures { λ _. ⌜ now (marks .exit) ≡ markedAt (now (places .entry)) (now (marks .entry)) ⌝ }
+{
+    let mut i = 0;
+    while i < places.len() {
+        tagtext::numbers::put(marks, places[i] as usize, 1);
+        i += 1;
+    }
+}

@@ -1,0 +1,189 @@
+// The entries of a group: one is read against SEQ, and put into the rows as the edit leaves it.
+ghost use mathlib.Core.Path.{_≡_};
+ghost use mathlib.Core.Bool.{cond};
+ghost use Prim.Native.Nat.{_+_, _≤_};
+ghost use lib.ListN.{length};
+ghost use lib.Seq.{sets};
+ghost use Rattle.samtags.specs.Decimal.{value};
+ghost use Rattle.samtags.specs.Reading.{readEntry};
+ghost use Rattle.samtags.specs.Writing.{entryText};
+ghost use Rattle.tagtext.specs.Walk.{trackedFrom};
+ghost use Rattle.changing.specs.Answers.{reachedSays, reachedRefusal};
+ghost use Rattle.changing.specs.Drafts.{passing, withPassed, draft, entryPut};
+ghost use Rattle.changing.specs.Windows.{heldIn, isMarked, deniedIn};
+use crate::changes;
+use lent::Refusal;
+use tagtext::numbers;
+use tagtext::numbers::Skip;
+use tagtext::places::Ordinal;
+use tagtext::places::Place;
+use tagtext::places::counts;
+
+// Where an entry's base stands and how many of the bases that it passes are still of the group's kind, or why there is none.
+pub enum Reached {
+    On(Place, Ordinal),
+    Refused(Refusal),
+}
+
+impl Reached {
+    // The refusal, passed on whole.
+    pub fn refusal(self) -> Refusal
+        ensures { λ r. ⌜ r ≡ reachedRefusal self ⌝ }
+    {
+        match self {
+            Reached::On(_, _) => Refusal(0),
+            Reached::Refused(refusal) => refusal,
+        }
+    }
+}
+
+fn one_more(n: Ordinal, yes: bool) -> Ordinal
+    requires { ⌜ n .0 ≤ 4294967296 ⌝ }
+    ensures { λ r. ⌜ r .0 ≡ n .0 + cond yes 1 0 ⌝ }
+{
+    if yes {
+        return Ordinal(n.0 + 1);
+    }
+    n
+}
+
+// From a place on, passes `skip` of the group's bases: the place of the next, and how many of the passed ones are still held. A base that is
+// gone counts in no skip. 7 where there is no such base.
+pub fn pass_tracked(
+    seq: &[u8],
+    after: &[u8],
+    lo: usize,
+    base: u8,
+    from: Place,
+    skip: Ordinal,
+) -> Reached
+    requires { ⌜ (from .0 ≤ length (now seq)) × (length (now seq) ≤ 16000) ⌝ }
+    ensures { λ r. ⌜ reachedSays r
+        ≡ passing (heldIn lo (now (after .entry)) base) 0 (skip .0) (trackedFrom base (from .0) (now (seq .entry))) ⌝ }
+{
+    let mut ordinal = Ordinal(0);
+    let mut held = Ordinal(0);
+    let mut pos = from;
+    while pos.0 < seq.len() {
+        let at = pos.0;
+        let hit = counts(base, seq[at]);
+        if hit {
+            if ordinal.0 == skip.0 {
+                return Reached::On(pos, held);
+            }
+            ordinal = Ordinal(ordinal.0 + 1);
+            let still = changes::still_held(base, after, lo, pos);
+            held = one_more(held, still);
+        }
+        pos = Place(at + 1);
+    }
+    Reached::Refused(Refusal(7))
+}
+
+// Reads an entry, from a place on and with so many values of ML left: 6 where its field is no number, 7 where SEQ has no such base, 8 where its
+// values are not all there, 10 where the edit drops its call and the group may lose none.
+pub fn read_entry(
+    seq: &[u8],
+    after: &[u8],
+    marks: &[u8],
+    field: &[u8],
+    lo: usize,
+    base: u8,
+    values: usize,
+    may_drop: bool,
+    from: Place,
+    left: usize,
+) -> Reached
+    requires { ⌜ (from .0 ≤ length (now seq)) × (length (now seq) ≤ 16000) ⌝ }
+    ensures { λ r. ⌜ reachedSays r
+        ≡ withPassed (heldIn lo (now (after .entry)) base) (value (now (field .entry))) (trackedFrom base (from .0) (now (seq .entry)))
+        (readEntry values (deniedIn (now (marks .entry)) «may_drop») (now (field .entry))
+        (trackedFrom base (from .0) (now (seq .entry))) left) ⌝ }
+{
+    let read = numbers::read_skip(field, 16001);
+    let Skip::Of(skip) = read else {
+        return Reached::Refused(read.refusal());
+    };
+    let reached = pass_tracked(seq, after, lo, base, from, Ordinal(skip));
+    let Reached::On(place, _) = reached else {
+        return reached;
+    };
+    if left < values {
+        return Reached::Refused(Refusal(8));
+    }
+    let denied = changes::is_denied(marks, may_drop, place);
+    if denied {
+        return Reached::Refused(Refusal(10));
+    }
+    reached
+}
+
+// Puts bytes from a place on, as far as the room reaches, and gives the place after them.
+pub fn put_all(out: &mut [u8], at: usize, bytes: &[u8]) -> usize
+    requires { ⌜ (at ≤ 4294967296) × (length (now bytes) ≤ 4294967296) ⌝ }
+    ensures { λ r. ⌜ (r ≡ at + length (now (bytes .entry))) × (now (out .exit) ≡ sets (now (out .entry)) at (now (bytes .entry))) ⌝ }
+{
+    let mut i = 0;
+    while i < bytes.len() {
+        numbers::put(out, at + i, bytes[i]);
+        i += 1;
+    }
+    at + i
+}
+
+// Puts a comma and the skip, as far as the room reaches, and gives the place after them.
+pub fn put_skip(out: &mut [u8], at: usize, skip: usize) -> usize
+    requires { ⌜ at ≤ 4294967295 ⌝ }
+    ensures { λ r. ⌜ (r ≡ at + length (entryText skip)) × (now (out .exit) ≡ sets (now (out .entry)) at (entryText skip)) ⌝ }
+{
+    numbers::put(out, at, b',');
+    numbers::put_decimal(out, at + 1, skip)
+}
+
+// Where what is written of each row ends, and how many of the group's bases were passed since the last call that stays.
+pub struct Pen {
+    pub end: usize,
+    pub kept: usize,
+    pub gap: usize,
+}
+
+// Puts a call as the edit leaves it: listed with its values; or dropped, and then its base still counts in the next skip; or gone with its base.
+pub fn put_entry(
+    after: &[u8],
+    marks: &[u8],
+    lo: usize,
+    base: u8,
+    place: Place,
+    values: &[u8],
+    pen: Pen,
+    out: &mut [u8],
+    ml_out: &mut [u8],
+) -> Pen
+    requires { ⌜ (pen .end ≤ 1048576) × (pen .kept ≤ 1048576) × (pen .gap ≤ 1048576) × (length (now values) ≤ 1048576) ⌝ }
+    ensures { λ r. ⌜ entryPut (heldIn lo (now (after .entry)) base (place .0)) (isMarked (now (marks .entry)) (place .0))
+        (draft (now (out .entry)) (pen .end) (now («ml_out» .entry)) (pen .kept)) (pen .gap) (now (values .entry))
+        ≡ (draft (now (out .exit)) (r .end) (now («ml_out» .exit)) (r .kept), r .gap) ⌝ }
+{
+    let held = changes::still_held(base, after, lo, place);
+    if !held {
+        return pen;
+    }
+    let end = pen.end;
+    let kept = pen.kept;
+    let gap = pen.gap;
+    let named = changes::is_named(marks, place);
+    if named {
+        return Pen {
+            end: end,
+            kept: kept,
+            gap: gap + 1,
+        };
+    }
+    let next_end = put_skip(out, end, gap);
+    let next_kept = put_all(ml_out, kept, values);
+    Pen {
+        end: next_end,
+        kept: next_kept,
+        gap: 0,
+    }
+}

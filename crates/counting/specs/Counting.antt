@@ -1,0 +1,32 @@
+-- The counting as the code goes, read by read over the columns. What it comes to is Reads.antt's: proofs/Counted.antt.
+-- Assumes nothing.
+use Prim.Native.Nat.{ℕ}
+use mathlib.Core.Bool.{Bool, cond, _&&_, _||_}
+use mathlib.Core.List.{List, [], _∷_}
+use lib.ListN.{length, getD}
+use lib.Dec.{eqb}
+use Rattle.lent.specs.Lists.{tabulate}
+use Rattle.pattern.specs.Case.{upper}
+use Rattle.pattern.specs.declared.ConversionPattern.{ConversionPattern}
+use Rattle.evidence.specs.Position.{countedIf, counted}
+use Rattle.columns.specs.Columns.{isYes}
+use Rattle.counting.specs.Reads.{Read, countsAt}
+use Rattle.evidence.specs.declared.MethylationEvidence.{MethylationEvidence}
+
+-- the base that a read shows at a position which it reaches: counted where all positions are, or where the position is informative and the
+-- base aligned
+abbrev pub countedThere : Bool → MethylationEvidence → ℕ → ℕ → ConversionPattern → MethylationEvidence
+countedThere all? e base aligned p = cond (all? || (e .informative && isYes aligned)) (counted e base p) e
+
+-- the count of a base at position i after one read more
+unfoldable pub countAfter : ℕ → Bool → List ℕ → Read → ℕ → ℕ → ℕ
+countAfter base all? informative r i n =
+    countedIf (countsAt all? (isYes (getD informative i 0)) i r && eqb (upper (getD (r .bases) i 0)) base) n
+
+-- a column of counts after one read more, and after all of them
+abbrev pub addRead : ℕ → Bool → List ℕ → Read → List ℕ → List ℕ
+addRead base all? informative r counts = tabulate (length counts) (λ i. countAfter base all? informative r i (getD counts i 0))
+
+unfoldable pub addReads : ℕ → Bool → List ℕ → List Read → List ℕ → List ℕ
+addReads base all? informative [] counts = counts
+addReads base all? informative (r ∷ rs) counts = addReads base all? informative rs (addRead base all? informative r counts)

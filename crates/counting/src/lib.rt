@@ -1,0 +1,142 @@
+// Fills the columns of evidence from reads: marks, zeroes, then counts read by read, so that the bases of all reads are passed over once and in
+// order. A support crate: a function here may ask something of its caller (`requires`); the public calls stand in `annotation`.
+ghost use mathlib.Core.Path.{_≡_};
+ghost use lib.ListN.{length};
+ghost use Rattle.pattern.specs.Patterns.{basesOf};
+ghost use Rattle.lent.specs.Lists.{sum};
+ghost use Rattle.columns.specs.Columns.{informativeColumn};
+ghost use Rattle.counting.specs.Reads.{Read, readsOf, unconvertedColumn, convertedColumn};
+ghost use Rattle.counting.specs.Counting.{countedThere, addRead, addReads};
+use columns::clear;
+use columns::marks::mark;
+use evidence::MethylationEvidence;
+use pattern::ConversionPattern;
+use refusals::smaller;
+
+// The evidence of a position with the base counted that a read shows there, where it counts.
+fn counted_there(
+    evidence: MethylationEvidence,
+    base: u8,
+    aligned: u8,
+    pattern: ConversionPattern,
+    count_all_positions: bool,
+) -> MethylationEvidence
+    ensures { λ r. ⌜ r ≡ countedThere «count_all_positions» evidence base aligned pattern ⌝ }
+{
+    if count_all_positions {
+        return evidence.counted(base, pattern);
+    }
+    if !evidence.informative {
+        return evidence;
+    }
+    if aligned == 0 {
+        return evidence;
+    }
+    evidence.counted(base, pattern)
+}
+
+// Counts one read over the columns, as far as both reach.
+fn count_read(
+    bases: &[u8],
+    aligned: &[u8],
+    pattern: ConversionPattern,
+    count_all_positions: bool,
+    informative: &[u8],
+    unconverted: &mut [u32],
+    converted: &mut [u32],
+)
+    requires { ⌜ (length (now aligned) ≡ length (now bases))
+        × (length (now unconverted) ≡ length (now informative)) × (length (now converted) ≡ length (now informative)) ⌝ }
+    ensures { λ _. ⌜ (let r : Read = record { bases = now (bases .entry); aligned = now (aligned .entry) } in
+        let all? = «count_all_positions» in
+        let inf = now (informative .entry) in
+        (now (unconverted .exit) ≡ addRead (basesOf pattern .unconverted) all? inf r (now (unconverted .entry)))
+        × (now (converted .exit) ≡ addRead (basesOf pattern .converted) all? inf r (now (converted .entry)))) ⌝ }
+{
+    let reached = smaller(bases.len(), informative.len());
+    let mut i = 0;
+    while i < reached {
+        let before = MethylationEvidence {
+            informative: informative[i] != 0,
+            unconverted: unconverted[i],
+            converted: converted[i],
+        };
+        let after = counted_there(before, bases[i], aligned[i], pattern, count_all_positions);
+        unconverted[i] = after.unconverted;
+        converted[i] = after.converted;
+        i += 1;
+    }
+}
+
+// Counts all reads over the columns, each where the last one ended in the joined rows.
+fn count_reads(
+    read_lengths: &[u32],
+    read_bases: &[u8],
+    read_aligned: &[u8],
+    pattern: ConversionPattern,
+    count_all_positions: bool,
+    informative: &[u8],
+    unconverted: &mut [u32],
+    converted: &mut [u32],
+)
+    requires { ⌜ (sum (now «read_lengths») ≡ length (now «read_bases»)) × (length (now «read_aligned») ≡ length (now «read_bases»))
+        × (length (now unconverted) ≡ length (now informative)) × (length (now converted) ≡ length (now informative)) ⌝ }
+    ensures { λ _. ⌜ (let reads = readsOf (now («read_lengths» .entry)) (now («read_bases» .entry)) (now («read_aligned» .entry)) in
+        let all? = «count_all_positions» in
+        let inf = now (informative .entry) in
+        (now (unconverted .exit) ≡ addReads (basesOf pattern .unconverted) all? inf reads (now (unconverted .entry)))
+        × (now (converted .exit) ≡ addReads (basesOf pattern .converted) all? inf reads (now (converted .entry)))) ⌝ }
+{
+    let mut k = 0;
+    let mut from = 0;
+    while k < read_lengths.len() {
+        let to = from + read_lengths[k] as usize;
+        count_read(
+            &read_bases[from..to],
+            &read_aligned[from..to],
+            pattern,
+            count_all_positions,
+            informative,
+            unconverted,
+            converted,
+        );
+        from = to;
+        k += 1;
+    }
+}
+
+// The three columns of a consensus, which has as many positions as each of them has entries.
+pub fn fill(
+    read_lengths: &[u32],
+    read_bases: &[u8],
+    ref_bases: &[u8],
+    pattern: ConversionPattern,
+    read_aligned: &[u8],
+    count_all_positions: bool,
+    informative: &mut [u8],
+    unconverted: &mut [u32],
+    converted: &mut [u32],
+)
+    requires { ⌜ (sum (now «read_lengths») ≡ length (now «read_bases»)) × (length (now «read_aligned») ≡ length (now «read_bases»))
+        × (length (now unconverted) ≡ length (now informative)) × (length (now converted) ≡ length (now informative)) ⌝ }
+    ensures { λ _. ⌜ (let n = length (now (informative .entry)) in
+        let row = now («ref_bases» .entry) in
+        let reads = readsOf (now («read_lengths» .entry)) (now («read_bases» .entry)) (now («read_aligned» .entry)) in
+        (now (informative .exit) ≡ informativeColumn pattern row n)
+        × (now (unconverted .exit) ≡ unconvertedColumn pattern «count_all_positions» row reads n)
+        × (now (converted .exit) ≡ convertedColumn pattern «count_all_positions» row reads n)) ⌝ }
+{
+    mark(ref_bases, pattern, informative);
+    clear(unconverted);
+    clear(converted);
+    count_reads(
+        read_lengths,
+        read_bases,
+        read_aligned,
+        pattern,
+        count_all_positions,
+        informative,
+        unconverted,
+        converted,
+    );
+}

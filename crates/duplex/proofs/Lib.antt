@@ -1,0 +1,4 @@
+pub mod Admitted
+pub mod Pieces
+pub mod Roomy
+pub mod Unique

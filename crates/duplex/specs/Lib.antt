@@ -1,0 +1,3 @@
+pub mod Duplex
+pub mod Answers
+pub mod Measured

@@ -1,0 +1,370 @@
+// The SEQ and the tags of a record with one strand or two. Port step 7.
+//
+// Names are the Rust's. Each strand is a pattern and three columns of evidence, as long as the consensus. SEQ is restored by each strand, each strand's
+// tag is built over that SEQ, and the joined tag has the C to T strand's group first. The number of strands is given as a number; with one the second
+// strand's inputs are not read and its rows stay as lent. No function here asks anything of its caller, and the contract is an equation with a
+// definition of specs/Duplex.antt.
+ghost use mathlib.Core.Path.{_≡_};
+ghost use mathlib.Core.Bool.{true, cond, _&&_, _||_};
+ghost use Prim.Native.Nat.{_+_, _≤_};
+ghost use lib.Dec.{eqb, leb};
+ghost use lib.ListN.{length};
+ghost use Rattle.lent.specs.Outcome.{onDone};
+ghost use Rattle.lent.specs.Filled.{leaves};
+ghost use Rattle.samtags.specs.Building.{columns, evidenceInDomain, evidenceAgrees};
+ghost use Rattle.duplex.specs.Duplex.{Duplexed, strand, rows, lengthsOf, within, admitted, duplexTags};
+ghost use Rattle.duplex.specs.Answers.{duplexSays};
+ghost use Rattle.duplex.specs.Measured.{measuredSays, measuredRefusal, restoredSeq, bothSizes, partLengths};
+use joining::BothSizes;
+use lent::Refusal;
+use pattern::ConversionPattern;
+use pattern::MethylationMode;
+
+// How many entries of each row an answer fills, or how many a caller lends.
+pub struct Lengths {
+    pub seq: usize,
+    pub mm: usize,
+    pub ml: usize,
+    pub unconverted: usize,
+    pub converted: usize,
+    pub first_mm: usize,
+    pub first_unconverted: usize,
+    pub first_converted: usize,
+    pub second_mm: usize,
+    pub second_unconverted: usize,
+    pub second_converted: usize,
+}
+
+// How much of each row is filled, or why nothing was written.
+pub enum Duplex {
+    Done(Lengths),
+    Refused(Refusal),
+}
+
+// What the first pass finds: how long the strands' own tags are, or why the call is refused.
+pub enum Measured {
+    Done(BothSizes),
+    Refused(Refusal),
+}
+
+impl Measured {
+    // The refusal, passed on whole.
+    fn refusal(self) -> Refusal
+        ensures { λ r. ⌜ r ≡ measuredRefusal self ⌝ }
+    {
+        match self {
+            Measured::Done(_) => Refusal(0),
+            Measured::Refused(refusal) => refusal,
+        }
+    }
+}
+
+// The number of strands is 1 or 2.
+fn is_count(strands: usize) -> bool
+    ensures { λ r. ⌜ r ≡ eqb strands 1 || eqb strands 2 ⌝ }
+{
+    strands == 1 || strands == 2
+}
+
+// The second strand's columns are no longer than the domain allows, where there is one.
+fn second_in_domain(
+    two: bool,
+    bases: &[u8],
+    informative: &[u8],
+    unconverted: &[u32],
+    converted: &[u32],
+) -> bool
+    ensures { λ r. ⌜ r ≡ cond two (evidenceInDomain (columns (now (informative .entry)) (now (unconverted .entry)) (now (converted .entry))) (now (bases .entry))) true ⌝ }
+{
+    if two {
+        return strand::in_domain(bases, informative, unconverted, converted);
+    }
+    true
+}
+
+// They are as long as the consensus, where there is one.
+fn second_agrees(
+    two: bool,
+    bases: &[u8],
+    informative: &[u8],
+    unconverted: &[u32],
+    converted: &[u32],
+) -> bool
+    ensures { λ r. ⌜ r ≡ cond two (evidenceAgrees (columns (now (informative .entry)) (now (unconverted .entry)) (now (converted .entry))) (now (bases .entry))) true ⌝ }
+{
+    if two {
+        return strand::agree(bases, informative, unconverted, converted);
+    }
+    true
+}
+
+// The first pass: everything that can be refused but the room, and else how long the strands' own tags are.
+fn measure(
+    bases: &[u8],
+    mode: MethylationMode,
+    strands: usize,
+    first: ConversionPattern,
+    first_informative: &[u8],
+    first_unconverted: &[u32],
+    first_converted: &[u32],
+    second: ConversionPattern,
+    second_informative: &[u8],
+    second_unconverted: &[u32],
+    second_converted: &[u32],
+) -> Measured
+    ensures { λ r. ⌜ (let a = strand first (now («first_informative» .entry)) (now («first_unconverted» .entry)) (now («first_converted» .entry)) in
+        let b = strand second (now («second_informative» .entry)) (now («second_unconverted» .entry)) (now («second_converted» .entry)) in
+        let two? = eqb strands 2 in
+        measuredSays r ≡ admitted strands (now (bases .entry)) a b (bothSizes two? mode (restoredSeq two? (now (bases .entry)) a b) a b)) ⌝ }
+{
+    let known = is_count(strands);
+    if !known {
+        return Measured::Refused(Refusal(13));
+    }
+    let two = strands == 2;
+    let first_short = strand::in_domain(
+        bases,
+        first_informative,
+        first_unconverted,
+        first_converted,
+    );
+    if !first_short {
+        return Measured::Refused(Refusal(1));
+    }
+    let second_short = second_in_domain(
+        two,
+        bases,
+        second_informative,
+        second_unconverted,
+        second_converted,
+    );
+    if !second_short {
+        return Measured::Refused(Refusal(1));
+    }
+    let first_same = strand::agree(bases, first_informative, first_unconverted, first_converted);
+    if !first_same {
+        return Measured::Refused(Refusal(2));
+    }
+    let second_same = second_agrees(
+        two,
+        bases,
+        second_informative,
+        second_unconverted,
+        second_converted,
+    );
+    if !second_same {
+        return Measured::Refused(Refusal(2));
+    }
+    Measured::Done(joining::measure(
+        bases,
+        mode,
+        two,
+        first,
+        first_informative,
+        first_unconverted,
+        first_converted,
+        second,
+        second_informative,
+        second_unconverted,
+        second_converted,
+    ))
+}
+
+// As many counts of the second strand as there are bases, where there is one.
+fn second_counts(two: bool, bases: usize) -> usize
+    ensures { λ r. ⌜ r ≡ cond two bases 0 ⌝ }
+{
+    if two {
+        return bases;
+    }
+    0
+}
+
+// The lengths of all parts of the answer.
+fn part_lengths(two: bool, bases: usize, sizes: BothSizes) -> Lengths
+    requires { ⌜ (sizes .«first_text» + sizes .«second_text» ≤ 65536) × (sizes .«first_values» + sizes .«second_values» ≤ 65536) ⌝ }
+    ensures { λ r. ⌜ r ≡ partLengths two bases sizes ⌝ }
+{
+    let counts = second_counts(two, bases);
+    Lengths {
+        seq: bases,
+        mm: sizes.first_text + sizes.second_text,
+        ml: sizes.first_values + sizes.second_values,
+        unconverted: bases,
+        converted: bases,
+        first_mm: sizes.first_text,
+        first_unconverted: bases,
+        first_converted: bases,
+        second_mm: sizes.second_text,
+        second_unconverted: counts,
+        second_converted: counts,
+    }
+}
+
+// So far every row had room, and so has this one.
+fn fits_too(so_far: bool, part: usize, row: usize) -> bool
+    ensures { λ r. ⌜ r ≡ «so_far» && leb part row ⌝ }
+{
+    if so_far {
+        return part <= row;
+    }
+    false
+}
+
+// Each row has room for its part.
+fn within(parts: Lengths, rows: Lengths) -> bool
+    ensures { λ r. ⌜ r ≡ within parts rows ⌝ }
+{
+    let fits = fits_too(true, parts.seq, rows.seq);
+    let fits = fits_too(fits, parts.mm, rows.mm);
+    let fits = fits_too(fits, parts.ml, rows.ml);
+    let fits = fits_too(fits, parts.unconverted, rows.unconverted);
+    let fits = fits_too(fits, parts.converted, rows.converted);
+    let fits = fits_too(fits, parts.first_mm, rows.first_mm);
+    let fits = fits_too(fits, parts.first_unconverted, rows.first_unconverted);
+    let fits = fits_too(fits, parts.first_converted, rows.first_converted);
+    let fits = fits_too(fits, parts.second_mm, rows.second_mm);
+    let fits = fits_too(fits, parts.second_unconverted, rows.second_unconverted);
+    fits_too(fits, parts.second_converted, rows.second_converted)
+}
+
+// SEQ, MM and ML, the combined counts (`cu`, `ct`), and each strand's own text and counts (`am`, `au`, `at` and `bm`, `bu`, `bt`) into lent rows.
+// Done with how much of each row is filled; where there is no call, or no chemistry, SEQ and counts are written and the texts are empty. 13 where there
+// are not 1 or 2 strands, 1 where an input is too long, 2 where the consensus and a strand's columns disagree in length, 12 where a row has no
+// room. With a refusal every row stays as lent.
+pub fn duplex_methylation_tags(
+    bases: &[u8],
+    strands: usize,
+    methylation_mode: MethylationMode,
+    first: ConversionPattern,
+    first_informative: &[u8],
+    first_unconverted: &[u32],
+    first_converted: &[u32],
+    second: ConversionPattern,
+    second_informative: &[u8],
+    second_unconverted: &[u32],
+    second_converted: &[u32],
+    seq: &mut [u8],
+    mm: &mut [u8],
+    ml: &mut [u8],
+    unconverted: &mut [i16],
+    converted: &mut [i16],
+    first_mm: &mut [u8],
+    first_unconverted_counts: &mut [i16],
+    first_converted_counts: &mut [i16],
+    second_mm: &mut [u8],
+    second_unconverted_counts: &mut [i16],
+    second_converted_counts: &mut [i16],
+) -> Duplex
+    ensures { λ r. ⌜ (let a = strand first (now («first_informative» .entry)) (now («first_unconverted» .entry)) (now («first_converted» .entry)) in
+        let b = strand second (now («second_informative» .entry)) (now («second_unconverted» .entry)) (now («second_converted» .entry)) in
+        let o = duplexTags strands «methylation_mode» (now (bases .entry)) a b
+        (rows (length (now (seq .entry))) (length (now (mm .entry))) (length (now (ml .entry)))
+        (length (now (unconverted .entry))) (length (now (converted .entry)))
+        (length (now («first_mm» .entry))) (length (now («first_unconverted_counts» .entry))) (length (now («first_converted_counts» .entry)))
+        (length (now («second_mm» .entry))) (length (now («second_unconverted_counts» .entry))) (length (now («second_converted_counts» .entry)))) in
+        (duplexSays r ≡ onDone lengthsOf o)
+        × (now (seq .exit) ≡ leaves (λ (d : Duplexed). d .seq) o (now (seq .entry)))
+        × (now (mm .exit) ≡ leaves (λ (d : Duplexed). d .joined .text) o (now (mm .entry)))
+        × (now (ml .exit) ≡ leaves (λ (d : Duplexed). d .joined .ml) o (now (ml .entry)))
+        × (now (unconverted .exit) ≡ leaves (λ (d : Duplexed). d .unconverted) o (now (unconverted .entry)))
+        × (now (converted .exit) ≡ leaves (λ (d : Duplexed). d .converted) o (now (converted .entry)))
+        × (now («first_mm» .exit) ≡ leaves (λ (d : Duplexed). d .first .text) o (now («first_mm» .entry)))
+        × (now («first_unconverted_counts» .exit) ≡ leaves (λ (d : Duplexed). d .first .unconverted) o (now («first_unconverted_counts» .entry)))
+        × (now («first_converted_counts» .exit) ≡ leaves (λ (d : Duplexed). d .first .converted) o (now («first_converted_counts» .entry)))
+        × (now («second_mm» .exit) ≡ leaves (λ (d : Duplexed). d .second .text) o (now («second_mm» .entry)))
+        × (now («second_unconverted_counts» .exit) ≡ leaves (λ (d : Duplexed). d .second .unconverted) o (now («second_unconverted_counts» .entry)))
+        × (now («second_converted_counts» .exit) ≡ leaves (λ (d : Duplexed). d .second .converted) o (now («second_converted_counts» .entry)))) ⌝ }
+{
+    let asked = measure(
+        bases,
+        methylation_mode,
+        strands,
+        first,
+        first_informative,
+        first_unconverted,
+        first_converted,
+        second,
+        second_informative,
+        second_unconverted,
+        second_converted,
+    );
+    let Measured::Done(sizes) = asked else {
+        return Duplex::Refused(asked.refusal());
+    };
+    let two = strands == 2;
+    let parts = part_lengths(two, bases.len(), sizes);
+    let roomy = within(
+        parts,
+        Lengths {
+            seq: seq.len(),
+            mm: mm.len(),
+            ml: ml.len(),
+            unconverted: unconverted.len(),
+            converted: converted.len(),
+            first_mm: first_mm.len(),
+            first_unconverted: first_unconverted_counts.len(),
+            first_converted: first_converted_counts.len(),
+            second_mm: second_mm.len(),
+            second_unconverted: second_unconverted_counts.len(),
+            second_converted: second_converted_counts.len(),
+        },
+    );
+    if !roomy {
+        return Duplex::Refused(Refusal(12));
+    }
+    joining::restore(
+        bases,
+        two,
+        first,
+        first_informative,
+        second,
+        second_informative,
+        seq,
+    );
+    joining::put_counts(
+        two,
+        first_unconverted,
+        second_unconverted,
+        unconverted,
+        first_unconverted_counts,
+        second_unconverted_counts,
+    );
+    joining::put_counts(
+        two,
+        first_converted,
+        second_converted,
+        converted,
+        first_converted_counts,
+        second_converted_counts,
+    );
+    let n = bases.len();
+    joining::put_tags(
+        &seq[0..n],
+        methylation_mode,
+        two,
+        first,
+        first_informative,
+        first_unconverted,
+        first_converted,
+        second,
+        second_informative,
+        second_unconverted,
+        second_converted,
+        sizes.first_values,
+        sizes.second_values,
+        first_mm,
+        second_mm,
+        ml,
+    );
+    joining::join(
+        first,
+        first_mm,
+        sizes.first_text,
+        second,
+        second_mm,
+        sizes.second_text,
+        mm,
+    );
+    Duplex::Done(parts)
+}

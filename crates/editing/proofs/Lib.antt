@@ -1,0 +1,2 @@
+pub mod DraftLaws
+pub mod TagLaws

@@ -1,0 +1,113 @@
+// A whole tag, edited: measured first, so that a refusal writes nothing and the room is asked for last, and then written by the same walk.
+ghost use mathlib.Core.Path.{_≡_};
+ghost use mathlib.Core.Bool.{cond};
+ghost use mathlib.Core.List.{[]};
+ghost use Prim.Native.Nat.{_≤_};
+ghost use lib.ListN.{length};
+ghost use Rattle.samtags.specs.Edits.{edited, inRoom};
+ghost use Rattle.samtags.specs.Reading.{inDomain};
+ghost use Rattle.lent.specs.Outcome.{tagSays};
+ghost use Rattle.editing.specs.Rewrote.{rewrote, leavesTag};
+ghost use Rattle.editing.specs.Tags.{TagMeasured};
+ghost use Rattle.changing.specs.Windows.{windowEdit};
+use crate::walk;
+use crate::walk::Edited;
+use lent::Refusal;
+use lent::Tagged;
+
+// SEQ, text and ML are as long as the domain allows; an ML that there is not is not looked at.
+pub fn in_domain(seq: &[u8], mm: &[u8], ml: &[u8], has_ml: bool) -> bool
+    ensures { λ r. ⌜ r ≡ inDomain «has_ml» (now (seq .entry)) (now (mm .entry)) (now (ml .entry)) ⌝ }
+{
+    let taken = scanning::values_taken(ml.len(), has_ml);
+    if 16000 < seq.len() {
+        return false;
+    }
+    if 65536 < mm.len() {
+        return false;
+    }
+    taken <= 65536
+}
+
+// The first walk, over no rows: everything that can be refused but the room, and how long the edited tag is. Where there is no ML its row is empty.
+pub fn measure(
+    seq: &[u8],
+    after: &[u8],
+    marks: &[u8],
+    mm: &[u8],
+    ml: &[u8],
+    lo: usize,
+    has_ml: bool,
+) -> Edited
+    requires { ⌜ (length (now seq) ≤ 16000) × (length (now mm) ≤ 65536) × (length (now ml) ≤ 65536) × (cond «has_ml» (now ml) [] ≡ now ml) ⌝ }
+    ensures { λ r. ⌜ TagMeasured
+        (edited (windowEdit lo (now (after .entry)) (now (marks .entry))) «has_ml» (now (seq .entry)) (now (mm .entry)) (now (ml .entry))) r ⌝ }
+{
+    let ascii = tagtext::fields::all_ascii(mm);
+    if !ascii {
+        return Edited::Refused(Refusal(3));
+    }
+    let closed = tagtext::fields::ends_in_semicolon(mm);
+    if !closed {
+        return Edited::Refused(Refusal(4));
+    }
+    let mut no_text: [u8; 0] = [];
+    let mut no_ml: [u8; 0] = [];
+    walk::edit_groups(
+        seq,
+        after,
+        marks,
+        mm,
+        ml,
+        lo,
+        has_ml,
+        &mut no_text,
+        &mut no_ml,
+    )
+}
+
+// Edits a tag into two lent rows: the reader's numbers and 10, last 12. With any refusal the rows stay as they were lent.
+pub fn edit_tag(
+    seq: &[u8],
+    after: &[u8],
+    marks: &[u8],
+    mm: &[u8],
+    ml: &[u8],
+    lo: usize,
+    has_ml: bool,
+    mm_out: &mut [u8],
+    ml_out: &mut [u8],
+) -> Tagged
+    requires { ⌜ (length (now seq) ≤ 16000) × (length (now mm) ≤ 65536) × (cond «has_ml» (length (now ml)) 0 ≤ 65536) ⌝ }
+    ensures { λ r. ⌜ rewrote (tagSays r) (now («mm_out» .exit)) (now («ml_out» .exit))
+        ≡ leavesTag «has_ml»
+        (inRoom «has_ml» (length (now («mm_out» .entry))) (length (now («ml_out» .entry)))
+        (edited (windowEdit lo (now (after .entry)) (now (marks .entry))) «has_ml» (now (seq .entry)) (now (mm .entry)) (now (ml .entry))))
+        (now («mm_out» .entry)) (now («ml_out» .entry)) ⌝ }
+{
+    let taken = scanning::values_taken(ml.len(), has_ml);
+    let measured = measure(seq, after, marks, mm, &ml[0..taken], lo, has_ml);
+    let Edited::To(size) = measured else {
+        return Tagged::Refused(measured.refusal());
+    };
+    let end = size.end;
+    let kept = size.kept;
+    if mm_out.len() < end {
+        return Tagged::Refused(Refusal(12));
+    }
+    if ml_out.len() < kept {
+        return Tagged::Refused(Refusal(12));
+    }
+    walk::edit_groups(
+        seq,
+        after,
+        marks,
+        mm,
+        &ml[0..taken],
+        lo,
+        has_ml,
+        mm_out,
+        ml_out,
+    );
+    Tagged::Done(end, kept)
+}

@@ -1,0 +1,3 @@
+pub mod Built
+pub mod Joined
+pub mod Longest

@@ -1,0 +1,41 @@
+-- Each public call's contract settles its outcome: two outcomes that meet it, the answer and both rows, are equal.
+-- Assumes nothing.
+use mathlib.Core.Path.{_≡_, ap}
+use Prim.Native.Nat.{ℕ}
+use mathlib.Core.Bool.{Bool}
+use mathlib.Core.List.{List}
+use lib.ListN.{length}
+use Rattle.lent.proofs.Filled.{settled}
+use Rattle.lent.proofs.Outcome.{tag-says-inj}
+use Rattle.samtags.specs.Edits.{cutTag, dropFromTag, maskTag}
+use Rattle.lent.specs.Outcome.{tagSays}
+use Rattle.editing.specs.Rewrote.{Rewrote, leavesTag, rewrote}
+use Rattle.lent.specs.declared.Tagged.{Tagged}
+use Rattle.rewriting.specs.Starts.{startSays}
+use Rattle.rewriting.specs.declared.WindowStart.{WindowStart}
+
+-- whatever the call leaves
+rewrote-unique : (o : Rewrote) (r s : Tagged) (t u v w : List ℕ) → rewrote (tagSays r) t v ≡ o → rewrote (tagSays s) u w ≡ o
+    → (r ≡ s) × (t ≡ u) × (v ≡ w)
+rewrote-unique o r s t u v w p q =
+    let same = settled (rewrote (tagSays r) t v) (rewrote (tagSays s) u w) p q in
+    (tag-says-inj r s (ap (λ (x : Rewrote). x .answer) same), ap (λ (x : Rewrote). x .text) same, ap (λ (x : Rewrote). x .ml) same)
+
+module _ (ml? : Bool) (mm ml mm-out ml-out : List ℕ) (r s : Tagged) (t u v w : List ℕ) where
+  pub drop-masked-modifications-unique : (before after : List ℕ)
+      → rewrote (tagSays r) t v ≡ leavesTag ml? (maskTag ml? before after mm ml (length mm-out) (length ml-out)) mm-out ml-out
+      → rewrote (tagSays s) u w ≡ leavesTag ml? (maskTag ml? before after mm ml (length mm-out) (length ml-out)) mm-out ml-out
+      → (r ≡ s) × (t ≡ u) × (v ≡ w)
+  drop-masked-modifications-unique before after = rewrote-unique _ r s t u v w
+
+  pub drop-modifications-at-unique : (seq places : List ℕ)
+      → rewrote (tagSays r) t v ≡ leavesTag ml? (dropFromTag ml? seq places mm ml (length mm-out) (length ml-out)) mm-out ml-out
+      → rewrote (tagSays s) u w ≡ leavesTag ml? (dropFromTag ml? seq places mm ml (length mm-out) (length ml-out)) mm-out ml-out
+      → (r ≡ s) × (t ≡ u) × (v ≡ w)
+  drop-modifications-at-unique seq places = rewrote-unique _ r s t u v w
+
+  pub trim-clipped-modifications-unique : (before after : List ℕ) (start : WindowStart)
+      → rewrote (tagSays r) t v ≡ leavesTag ml? (cutTag ml? (startSays start) before after mm ml (length mm-out) (length ml-out)) mm-out ml-out
+      → rewrote (tagSays s) u w ≡ leavesTag ml? (cutTag ml? (startSays start) before after mm ml (length mm-out) (length ml-out)) mm-out ml-out
+      → (r ≡ s) × (t ≡ u) × (v ≡ w)
+  trim-clipped-modifications-unique before after start = rewrote-unique _ r s t u v w

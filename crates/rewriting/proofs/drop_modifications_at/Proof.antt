@@ -1,0 +1,98 @@
+-- `drop_modifications_at`: 1, and then the edit over all of SEQ, with the places marked.
+-- Assumes nothing.
+use mathlib.Core.Path.{_∙_, _≡_, ap, sym}
+use Prim.Native.Nat.{ℕ}
+use native.Mathlib.Omega.{arith}
+use mathlib.Core.Bool.{true}
+use mathlib.Core.List.{List}
+use lib.ListN.{length}
+use borrow.Author.Needs.{needs}
+use borrow.Author.Tests.{not-false, not-true}
+use Rattle.changing.specs.Windows.{windowEdit}
+use Rattle.lent.specs.Outcome.{tagSays}
+use Rattle.editing.specs.Rewrote.{leavesTag, rewrote}
+use Rattle.lent.specs.Outcome.{Outcome}
+use Rattle.rewriting.proofs.Orders.{drop-on, drop-one, left-alone}
+use Rattle.samtags.proofs.Taken.{in-domain}
+use Rattle.samtags.specs.Edits.{edited, inRoom}
+use Rattle.samtags.specs.Reading.{inDomain}
+use Rattle.samtags.specs.Writing.{Tag}
+use Rattle.rewriting.proofs.drop_modifications_at.Statement.{statement}
+use Rattle.rewriting.proofs.drop_modifications_at.Tie as tie
+
+-- the lengths are in the domain
+domain : (s : tie.Else1) → inDomain (s .before .before .before .before .before .before .before .before .args .has-ml)
+    (s .before .before .before .before .before .before .before .before .args .seq .now)
+    (s .before .before .before .before .before .before .before .before .args .mm .now)
+    (s .before .before .before .before .before .before .before .before .args .ml .now) ≡ true
+domain s = sym (s .before .in-domain .ensures) ∙ not-false _ (s .if1 .left)
+
+in-domain-requires : tie.Need-in-domain-requires
+in-domain-requires c κs = search needs
+
+returns : tie.Need-returns
+returns c =
+    let a = c .before .before .before .before .before .before .before .before .args in
+    left-alone (a .has-ml) (a .mm-out .now) (a .ml-out .now) _ _ (drop-one (a .has-ml) (a .seq .now) (a .places .now) (a .mm .now) (a .ml .now)
+    (length (a .mm-out .now)) (length (a .ml-out .now))
+    (sym (c .before .in-domain .ensures) ∙ not-true _ (c .if1 .taken)))
+
+no-marks-requires : tie.Need-no-marks-requires
+no-marks-requires c κs = search needs
+
+slice-aggregate-mark-places : tie.Need-slice-aggregate-mark-places
+slice-aggregate-mark-places c = search needs
+
+mark-places-requires : tie.Need-mark-places-requires
+mark-places-requires c κs = search needs
+
+slice-aggregate-edit-tag : tie.Need-slice-aggregate-edit-tag
+slice-aggregate-edit-tag c = search needs
+
+edit-tag-requires : tie.Need-edit-tag-requires
+edit-tag-requires c κs =
+    let a = c .before .before .before .before .before .before .before .before .before .before .before .before .before .before .before .args in
+    in-domain (a .has-ml) (a .seq .now) (a .mm .now) (a .ml .now) (domain (c .before .before .before .before .before .before .before))
+
+same-length : tie.Need-same-length
+same-length c = search needs
+
+same-length-2 : tie.Need-same-length-2
+same-length-2 c = search needs
+
+returns-2 : tie.Need-returns-2
+returns-2 c =
+    let w = c .before .before .before .before in
+    let a = w .before .before .before .before .before .before .before .before .before .before .before .before .before .before .before .before .args in
+    let fits = in-domain (a .has-ml) (a .seq .now) (a .mm .now) (a .ml .now) (domain
+    (w .before .before .before .before .before .before .before .before)) in
+    let row = w .before .before .before .before .before .before .before .no-marks .ensures in
+    let l = w .edit-tag .last .1 .1 .1 .1 .1 .1 .1 in
+    let made : rewrote (tagSays (w .edit-tag .result)) (l .0) (l .1 .0)
+    ≡ leavesTag (a .has-ml) (inRoom (a .has-ml) (length (a .mm-out .now)) (length (a .ml-out .now))
+    (edited (windowEdit 0 (a .seq .now) (w .before .before .before .before .before .mark-places .last .1 .0)) (a .has-ml) (a .seq .now) (a .mm .now)
+    (a .ml .now))) (a .mm-out .now) (a .ml-out .now) =
+    w .edit-tag .ensures in
+    made
+    ∙ ap (λ (marks : List ℕ). leavesTag (a .has-ml) (inRoom (a .has-ml) (length (a .mm-out .now)) (length (a .ml-out .now))
+    (edited (windowEdit 0 (a .seq .now) marks) (a .has-ml) (a .seq .now) (a .mm .now) (a .ml .now))) (a .mm-out .now) (a .ml-out .now))
+    (w .before .before .before .before .before .mark-places .ensures)
+    ∙ ap (λ (o : Outcome Tag). leavesTag (a .has-ml) o (a .mm-out .now) (a .ml-out .now))
+    (sym (drop-on (a .has-ml) (a .seq .now) (a .places .now) (a .mm .now) (a .ml .now) (length (a .mm-out .now)) (length (a .ml-out .now))
+    (domain (w .before .before .before .before .before .before .before .before))
+    (w .before .before .before .before .before .before .before .no-marks .result) (omega (arith, fits .0, row .0)) (row .1)))
+
+pub drop-modifications-at-spec : {M : Type 1} → statement M
+drop-modifications-at-spec =
+    tie.close
+    (tie.spec
+    in-domain-requires
+    returns
+    no-marks-requires
+    slice-aggregate-mark-places
+    mark-places-requires
+    slice-aggregate-edit-tag
+    edit-tag-requires
+    same-length
+    same-length-2
+    returns-2)

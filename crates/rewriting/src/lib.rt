@@ -1,0 +1,134 @@
+// Rewriting a tag after its SEQ was masked or cut, or without the calls at some places. Port step 6, and the public face of what `samtags` defines
+// as edits.
+//
+// Each call takes SEQ, the MM text and the ML as the caller has them, of any length and content and in read orientation, and answers with the scope's
+// numbers in the scope's order. Done with how many bytes of text and of ML the edited tag takes: they fill the front of the two lent rows, and
+// the rest of each stays. With any other answer the rows stay as they were lent. `has_ml` false is a tag without ML: neither of the rows lent for
+// one is then looked at. Headers stay as spelled, skips are spelled anew, and a group that lost all its calls stays. No public function asks anything
+// of its caller.
+ghost use mathlib.Core.Path.{_≡_};
+ghost use lib.ListN.{length};
+ghost use Rattle.samtags.specs.Edits.{maskTag, dropFromTag, cutTag};
+ghost use Rattle.lent.specs.Outcome.{tagSays};
+ghost use Rattle.editing.specs.Rewrote.{rewrote, leavesTag};
+ghost use Rattle.rewriting.specs.Starts.{startSays, startOf};
+use editing::tags;
+use lent::Refusal;
+use lent::Tagged;
+
+// Where what is left of SEQ begins in what it was.
+pub enum WindowStart {
+    Known(usize),
+    Unknown,
+}
+
+// SEQ was masked: `after` is as long as `before`, and a base that it no longer holds is no longer one of its group's. Its call goes, and it counts in
+// no later skip. Any byte of `after` may differ, not only by an N.
+// 1 for what is too long, 2 where the lengths differ, then 3, 4, .. as the reader, and last 12.
+pub fn drop_masked_modifications(
+    before: &[u8],
+    after: &[u8],
+    mm: &[u8],
+    ml: &[u8],
+    has_ml: bool,
+    mm_out: &mut [u8],
+    ml_out: &mut [u8],
+) -> Tagged
+    ensures { λ r. ⌜ rewrote (tagSays r) (now («mm_out» .exit)) (now («ml_out» .exit))
+        ≡ leavesTag «has_ml»
+        (maskTag «has_ml» (now (before .entry)) (now (after .entry)) (now (mm .entry)) (now (ml .entry))
+        (length (now («mm_out» .entry))) (length (now («ml_out» .entry))))
+        (now («mm_out» .entry)) (now («ml_out» .entry)) ⌝ }
+{
+    let fits = tags::in_domain(before, mm, ml, has_ml);
+    if !fits {
+        return Tagged::Refused(Refusal(1));
+    }
+    if 16000 < after.len() {
+        return Tagged::Refused(Refusal(1));
+    }
+    if before.len() != after.len() {
+        return Tagged::Refused(Refusal(2));
+    }
+    let no_marks: [u8; 0] = [];
+    tags::edit_tag(before, after, &no_marks, mm, ml, 0, has_ml, mm_out, ml_out)
+}
+
+// The calls at the places go, and SEQ stays: their bases still count in later skips. The places may come in any order and more than once; those past
+// SEQ's end do nothing.
+// 1 for what is too long, then 3, 4, .. as the reader with 10 at an entry whose call would go from a group that may lose none, and last 12.
+pub fn drop_modifications_at(
+    seq: &[u8],
+    places: &[u32],
+    mm: &[u8],
+    ml: &[u8],
+    has_ml: bool,
+    mm_out: &mut [u8],
+    ml_out: &mut [u8],
+) -> Tagged
+    ensures { λ r. ⌜ rewrote (tagSays r) (now («mm_out» .exit)) (now («ml_out» .exit))
+        ≡ leavesTag «has_ml»
+        (dropFromTag «has_ml» (now (seq .entry)) (now (places .entry)) (now (mm .entry)) (now (ml .entry))
+        (length (now («mm_out» .entry))) (length (now («ml_out» .entry))))
+        (now («mm_out» .entry)) (now («ml_out» .entry)) ⌝ }
+{
+    let fits = tags::in_domain(seq, mm, ml, has_ml);
+    if !fits {
+        return Tagged::Refused(Refusal(1));
+    }
+    let mut marks = changing::changes::no_marks();
+    changing::changes::mark_places(places, &mut marks);
+    tags::edit_tag(seq, seq, &marks, mm, ml, 0, has_ml, mm_out, ml_out)
+}
+
+// Where the window starts: at 0 where nothing was cut off, whatever start is given.
+fn window_start(start: WindowStart, before: usize, after: usize) -> WindowStart
+    ensures { λ r. ⌜ startSays r ≡ startOf (startSays start) before after ⌝ }
+{
+    if before == after {
+        return WindowStart::Known(0);
+    }
+    start
+}
+
+// SEQ was cut: `after` is a window of `before`, in which a base may be masked by N or n. The calls outside go, and so do those on masked bases.
+// 1 for what is too long, 21 where nothing changed (the tag is then not read), 11 where `after` is no window of `before` or its start is unknown,
+// then 3, 4, .. as the reader, and last 12.
+pub fn trim_clipped_modifications(
+    before: &[u8],
+    after: &[u8],
+    start: WindowStart,
+    mm: &[u8],
+    ml: &[u8],
+    has_ml: bool,
+    mm_out: &mut [u8],
+    ml_out: &mut [u8],
+) -> Tagged
+    ensures { λ r. ⌜ rewrote (tagSays r) (now («mm_out» .exit)) (now («ml_out» .exit))
+        ≡ leavesTag «has_ml»
+        (cutTag «has_ml» (startSays start) (now (before .entry)) (now (after .entry)) (now (mm .entry)) (now (ml .entry))
+        (length (now («mm_out» .entry))) (length (now («ml_out» .entry))))
+        (now («mm_out» .entry)) (now («ml_out» .entry)) ⌝ }
+{
+    let fits = tags::in_domain(before, mm, ml, has_ml);
+    if !fits {
+        return Tagged::Refused(Refusal(1));
+    }
+    if 16000 < after.len() {
+        return Tagged::Refused(Refusal(1));
+    }
+    let same = changing::windows::same_bytes(before, after);
+    if same {
+        return Tagged::Refused(Refusal(21));
+    }
+    let found = window_start(start, before.len(), after.len());
+    let WindowStart::Known(lo) = found else {
+        return Tagged::Refused(Refusal(11));
+    };
+    let window = changing::windows::lies_in(after, before, lo);
+    if !window {
+        return Tagged::Refused(Refusal(11));
+    }
+    let none: [u8; 0] = [];
+    tags::edit_tag(before, after, &none, mm, ml, lo, has_ml, mm_out, ml_out)
+}

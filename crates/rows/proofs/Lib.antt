@@ -1,4 +1,0 @@
-pub mod Tabulate
-pub mod Counted
-pub mod Joined
-pub mod Order

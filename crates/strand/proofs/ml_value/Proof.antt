@@ -1,0 +1,34 @@
+-- `ml_value`: the floor, and 255 above it.
+-- Assumes nothing.
+use native.Mathlib.Omega.{arith}
+use borrow.Author.Needs.{needs}
+use Rattle.samtags.specs.Building.{mlValue}
+use Rattle.strand.proofs.ml_value.Statement.{statement}
+use Rattle.strand.proofs.ml_value.Tie as tie
+use Rattle.strand.proofs.ml_value.Reads as reads
+use Rattle.strand.proofs.ml_value.Lts as lts
+
+-- src/lib.rt:56:18
+mul-scaled : tie.Need-mul-scaled
+mul-scaled c = search needs
+
+-- src/lib.rt:56:18
+div-scaled : tie.Need-div-scaled
+div-scaled c = search needs
+
+-- src/lib.rt:58:9
+returns : tie.Need-returns
+unfolding mlValue
+returns c = omega arith
+
+-- src/lib.rt:60:5
+cast-result : tie.Need-cast-result
+cast-result c = search needs
+
+-- src/lib.rt:52:1
+returns-2 : tie.Need-returns-2
+unfolding mlValue
+returns-2 c = omega arith
+
+pub ml-value-spec : {M : Type 1} → statement M
+ml-value-spec = tie.close (tie.spec mul-scaled div-scaled returns cast-result returns-2)
