@@ -201,6 +201,10 @@ lengths-are two? mode bases a b k =
       «second_converted» = second-counts two? (b .evidence .converted) n con j;
     }
 
+pub one-or-two : (two? : Bool) (a b : Strand) → length (strandsOf two? a b) ≤ 2
+one-or-two true a b = omega arith
+one-or-two false a b = omega arith
+
 -- two texts that are joined can always be edited
 pub tags-fit : (two? : Bool) (mode : MethylationMode) (bases : List ℕ) (a b : Strand) → Known two? bases a b
     → let seq = restoredSeq two? bases a b in
@@ -214,14 +218,10 @@ tags-fit two? mode bases a b k =
     let inf : two? ≡ true → length (b .evidence .informative) ≡ length bases = λ (t : two? ≡ true). k .second t .inf in
     let long : length seq ≡ length bases =
     both-length two? (a .pattern) (a .evidence .informative) (b .pattern) (b .evidence .informative) bases (k .first .inf) inf in
-    let fit = joined-fits-the-domain mode (strandsOf two? a b) seq (at-most-two two?) (omega (arith, long, k .first .short)) in (
+    let fit = joined-fits-the-domain mode (strandsOf two? a b) seq (one-or-two two? a b) (omega (arith, long, k .first .short)) in (
       omega (arith, fit .0, ap (λ (l : List ℕ). length l) (text-is two? mode seq a b), order-length (a .pattern) (b .pattern) (own .text) (other .text)),
       omega (arith, fit .1, ap (λ (l : List ℕ). length l) (ml-is two? mode seq a b), order-length (a .pattern) (b .pattern) (own .ml) (other .ml)),
     )
-  where
-    at-most-two : (t : Bool) → length (strandsOf t a b) ≤ 2
-    at-most-two true = omega arith
-    at-most-two false = omega arith
 
 -- ---- where the checks passed
 

@@ -8,8 +8,8 @@ use mathlib.Core.Bool.{Bool, true, false, cond, _&&_}
 use mathlib.Core.List.{List, [], _∷_}
 use lib.Dec.{eqb}
 use lib.ListN.{length, take}
-use Rattle.lent.specs.Lists.{every, isEmpty, zipWith}
-use Rattle.lent.specs.Outcome.{Outcome, done, need, onDone}
+use Rattle.lent.specs.Lists.{isEmpty}
+use Rattle.lent.specs.Outcome.{done, need}
 use Rattle.lent.proofs.Leaves.{front-is-part}
 use Rattle.lent.proofs.Tests.{by-test, and-true, and-true-l, and-true-r}
 use Rattle.lent.proofs.Outcome.{on-done-inv, and-then-inv, need-rest, done-inj}
@@ -20,18 +20,17 @@ use Rattle.pattern.specs.declared.ConversionPattern.the-variants.{CToT, GToA}
 use Rattle.pattern.specs.declared.MethylationMode.{MethylationMode}
 use Rattle.columns.specs.Columns.{isYes, restored}
 use Rattle.samtags.specs.Spots.{Group}
-use Rattle.samtags.specs.Writing.{Tag, textOf, written}
-use Rattle.samtags.specs.Building.{Strand, joinedGroups, joinedTag}
+use Rattle.samtags.specs.Writing.{textOf, written}
+use Rattle.samtags.specs.Building.{Strand, joinedGroups, joinedTag, ownTag}
 use Rattle.samtags.proofs.Names.{upperCase}
 use Rattle.samtags.proofs.Building.{joinedListings, joined-is-accepted}
 use Rattle.samtags.proofs.BuiltSays.{joined-says}
-use Rattle.strand.proofs.Lengths.{Lengths}
 use Rattle.joining.proofs.Parts.{both-length}
-use Rattle.duplex.specs.Duplex.{Duplexed, strandsOf, restoredBy, duplexed, admitted, within, lengthsOf, duplexTags}
+use Rattle.duplex.specs.Duplex.{Duplexed, strandTags, noTags, strandsOf, restoredBy, duplexed, admitted, within, lengthsOf, duplexTags}
 use Rattle.duplex.specs.declared.Lengths.{Lengths as Filled}
 use Rattle.duplex.specs.declared.Duplex.the-variants as duplex
-use Rattle.duplex.proofs.Admitted.{Passed, passed}
-use Rattle.duplex.proofs.Pieces.{Known, known, seq-is}
+use Rattle.duplex.proofs.Admitted.{passed}
+use Rattle.duplex.proofs.Pieces.{Known, known, one-or-two, seq-is}
 use Rattle.duplex.proofs.Unique.{Rows, lengthsLent, Duplexes}
 use Rattle.readback.proofs.Built.{ReadsBack, reads-back}
 
@@ -78,6 +77,15 @@ module _ (count : ℕ) (mode : MethylationMode) (bases : List ℕ) (a b : Strand
       let same : d ≡ x = p .is ∙ done-inj (need-rest (within (lengthsOf y) (lengthsLent lent)) 12 (done y) x fits) in
       (is ∙ ap done (sym same), ap lengthsOf same ∙ sizes, known count bases a b d y p)
 
+  -- SEQ is as long as the bases, and upper case where they are
+  seq-short : Known (eqb count 2) bases a b → length (restoredBy (strandsOf (eqb count 2) a b) bases) ≤ 16000
+  seq-short k =
+      let inf : eqb count 2 ≡ true → length (b .evidence .informative) ≡ length bases = λ (t : eqb count 2 ≡ true). k .second t .inf in
+      let long : length (restoredBy (strandsOf (eqb count 2) a b) bases) ≡ length bases =
+      ap (λ (s : List ℕ). length s) (seq-is (eqb count 2) bases a b)
+      ∙ both-length (eqb count 2) (a .pattern) (a .evidence .informative) (b .pattern) (b .evidence .informative) bases (k .first .inf) inf in
+      omega (arith, long, k .first .short)
+
   -- Where a call was written, the joined tag is read back over the SEQ that was written.
   pub joined-reads-back : (f : Filled) (l : Rows) → Duplexes count mode bases a b lent (duplex.Done f) l → upperCase bases ≡ true → 0 < f .mm
       → let seq = take (f .seq) (l .seq) in
@@ -95,20 +103,51 @@ module _ (count : ℕ) (mode : MethylationMode) (bases : List ℕ) (a b : Strand
       let ml-row = front-is-part (λ (d : Duplexed). d .joined .ml) o d (lent .ml) (l .ml) (f .ml) is (ap (λ (r : Rows). r .ml) rows) (sym (ap (λ (n : Filled). n .ml) sizes)) in
       let seq = restoredBy ss bases in
       let up : upperCase seq ≡ true = restored-by-upper ss bases u in
-      let inf : eqb count 2 ≡ true → length (b .evidence .informative) ≡ length bases = λ (t : eqb count 2 ≡ true). k .second t .inf in
-      let long : length seq ≡ length bases =
-      ap (λ (s : List ℕ). length s) (seq-is (eqb count 2) bases a b)
-      ∙ both-length (eqb count 2) (a .pattern) (a .evidence .informative) (b .pattern) (b .evidence .informative) bases (k .first .inf) inf in
       let group : isEmpty (joinedGroups mode ss seq) ≡ false =
       has-group (joinedGroups mode ss seq) (omega (arith, some, ap (λ (n : Filled). n .mm) sizes)) in
-      let few : length ss ≤ 2 = at-most-two (eqb count 2) in (
+      let few : length ss ≤ 2 = one-or-two (eqb count 2) a b in (
         seq-row,
         rw (seq-row, mm-row, ml-row)
             (reads-back true seq (joinedTag mode ss seq .text) (joinedTag mode ss seq .ml) (joinedListings true mode ss seq)
-            (joined-is-accepted true mode ss seq [] up few (omega (arith, long, k .first .short)) group)
+            (joined-is-accepted true mode ss seq [] up few (seq-short k) group)
             (joined-says true mode seq up ss [] group)),
       )
-    where
-      at-most-two : (t : Bool) → length (strandsOf t a b) ≤ 2
-      at-most-two true = omega arith
-      at-most-two false = omega arith
+
+  -- The strands' own texts, which have no ML, are read back likewise, each where it has a call.
+  own-reads-back : (s : Strand) (k : Known (eqb count 2) bases a b) → upperCase bases ≡ true → (lent : List ℕ)
+      → let seq = restoredBy (strandsOf (eqb count 2) a b) bases in
+      0 < length (ownTag mode (s .pattern) (s .evidence) seq .text)
+      → ReadsBack false seq (ownTag mode (s .pattern) (s .evidence) seq .text) lent (joinedListings false mode (s ∷ []) seq)
+  unfolding joinedTag
+  own-reads-back s k u lent some =
+      let seq = restoredBy (strandsOf (eqb count 2) a b) bases in
+      let up : upperCase seq ≡ true = restored-by-upper (strandsOf (eqb count 2) a b) bases u in
+      let group : isEmpty (joinedGroups mode (s ∷ []) seq) ≡ false = has-group (joinedGroups mode (s ∷ []) seq) some in
+      reads-back false seq (joinedTag mode (s ∷ []) seq .text) lent (joinedListings false mode (s ∷ []) seq)
+      (joined-is-accepted false mode (s ∷ []) seq lent up (omega arith) (seq-short k) group)
+      (joined-says false mode seq up (s ∷ []) lent group)
+
+  pub first-reads-back : (f : Filled) (l : Rows) → Duplexes count mode bases a b lent (duplex.Done f) l → upperCase bases ≡ true → (ml : List ℕ) → 0 < f .«first_mm»
+      → let seq = restoredBy (strandsOf (eqb count 2) a b) bases in
+      ReadsBack false seq (take (f .«first_mm») (l .firstMm)) ml (joinedListings false mode (a ∷ []) seq)
+  unfolding duplexed
+  first-reads-back f l c u ml some =
+      let d = duplexed (eqb count 2) mode bases a b in
+      let (is, sizes, k) = came-to f l c in
+      let row = front-is-part (λ (d : Duplexed). d .first .text) (duplexTags count mode bases a b (lengthsLent lent)) d (lent .firstMm) (l .firstMm) (f .«first_mm») is
+      (ap (λ (r : Rows). r .firstMm) (c .1)) (sym (ap (λ (n : Filled). n .«first_mm») sizes)) in
+      rw row (own-reads-back a k u ml (omega (arith, some, ap (λ (n : Filled). n .«first_mm») sizes)))
+
+  pub second-reads-back : (f : Filled) (l : Rows) → Duplexes count mode bases a b lent (duplex.Done f) l → upperCase bases ≡ true → (ml : List ℕ) → eqb count 2 ≡ true
+      → 0 < f .«second_mm»
+      → let seq = restoredBy (strandsOf (eqb count 2) a b) bases in
+      ReadsBack false seq (take (f .«second_mm») (l .secondMm)) ml (joinedListings false mode (b ∷ []) seq)
+  unfolding duplexed
+  second-reads-back f l c u ml two some =
+      let d = duplexed (eqb count 2) mode bases a b in
+      let seq = restoredBy (strandsOf (eqb count 2) a b) bases in
+      let (is, sizes, k) = came-to f l c in
+      let text : d .second .text ≡ ownTag mode (b .pattern) (b .evidence) seq .text = ap (λ (t : Bool). cond t (strandTags mode seq b) noTags .text) two in
+      let row = front-is-part (λ (d : Duplexed). d .second .text) (duplexTags count mode bases a b (lengthsLent lent)) d (lent .secondMm) (l .secondMm) (f .«second_mm») is
+      (ap (λ (r : Rows). r .secondMm) (c .1)) (sym (ap (λ (n : Filled). n .«second_mm») sizes)) in
+      rw (row ∙ text) (own-reads-back b k u ml (omega (arith, some, ap (λ (n : Filled). n .«second_mm») sizes, ap (λ (t : List ℕ). length t) text)))

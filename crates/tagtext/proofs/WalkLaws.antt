@@ -16,6 +16,7 @@ use Rattle.lent.proofs.Outcome.{done-inj, need-rest, need-test}
 use Rattle.lent.proofs.Tests.{by-test}
 use Rattle.lent.specs.Outcome.{need, refuse, withFirst, done, refused}
 use Rattle.lent.specs.declared.Refusal.{Refusal}
+use Rattle.samtags.proofs.Places.{places-length}
 use Rattle.samtags.specs.Decimal.{isNumber, value}
 use Rattle.samtags.specs.Spots.{holds, placesFrom}
 use Rattle.tagtext.specs.Walk.{trackedFrom, entryAt, firstOf}
@@ -45,13 +46,9 @@ module _ (b : ℕ) (s : List ℕ) (i : ℕ) where
 
 -- ---- a bounded skip passes what the skip passes
 
-places-few : (t : ℕ → Bool) (i : ℕ) (xs : List ℕ) → length (placesFrom t i xs) ≤ length xs
-places-few t i [] = omega arith
-places-few t i (x ∷ xs) = by-test (t x) (λ e. rw e (omega (arith, places-few t (suc i) xs))) (λ e. rw e (omega (arith, places-few t (suc i) xs)))
-
 pub tracked-few : (b i : ℕ) (s : List ℕ) → length (trackedFrom b i s) ≤ length s
 unfolding trackedFrom
-tracked-few b i s = omega (arith, places-few (holds b) i (drop i s), length-drop i s)
+tracked-few b i s = omega (arith, places-length (holds b) i (drop i s), length-drop i s)
 
 -- where there are at most as many places as the bound lets pass
 pub bounded-drop : (most n : ℕ) (ps : List ℕ) → length ps < most → drop (min most n) ps ≡ drop n ps
