@@ -21,6 +21,7 @@ use libc::STDIN_FILENO;
 use libc::STDOUT_FILENO;
 use replying::reply;
 use rewriting_answers::edits;
+use session_answers::steps;
 use tags_answers::read;
 
 // What is known of the input: how many bytes of the buffer are filled, and whether they belong to a line that was too long for it and has
@@ -127,6 +128,9 @@ fn answer_of_rewriting(line: &[u8], name: &[u8], out: &mut [u8]) -> usize
     }
     if check::same(name, b"CUT") {
         return edits::answer_cut(line, out);
+    }
+    if check::same(name, b"STEP") {
+        return steps::answer_step(line, out);
     }
     reply::unknown(out)
 }

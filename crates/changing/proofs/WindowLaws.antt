@@ -4,10 +4,10 @@ use mathlib.Core.Path.{_≡_, refl, sym, ap, _∙_}
 use Prim.Native.Nat.{ℕ, zero, suc, _+_, _-_, _≤_, _<_}
 use native.Mathlib.Nat.{sub-zero}
 use native.Mathlib.Omega.{arith}
-use mathlib.Core.Bool.{Bool, true, false, _&&_, _||_}
+use mathlib.Core.Bool.{Bool, true, false, cond, _&&_, _||_}
 use mathlib.Core.List.{List, [], _∷_}
 use lib.Dec.{eqb}
-use lib.ListN.{length, getD, drop, drop-of-length-le, replicate, set, length-set}
+use lib.ListN.{length, getD, take, drop, drop-of-length-le, replicate, set, length-set}
 use lib.Seq.{getD-set-other, getD-set-same}
 use borrow.Author.Tests.{eq-eqb, eqb-false, eqb-true, ne-eqb}
 use Rattle.lent.proofs.Lists.{Agree, agree-all, agree-imp, drop-here}
@@ -19,8 +19,10 @@ use Rattle.samtags.specs.Edits.{cutTo, droppingAt, edited, isMasked, liesIn, ma
 use Rattle.samtags.specs.Meaning.{inside}
 use Rattle.samtags.specs.Reading.{nowhere}
 use Rattle.samtags.specs.Spots.{holds, tracked}
+use Rattle.samtags.specs.Bytes.{letterN}
+use Rattle.samtags.specs.Session.{maskFrom, masked}
 use Rattle.changing.proofs.EntryLaws.{held-inside}
-use Rattle.changing.specs.Windows.{heldIn, isMarked, markedAt, windowEdit}
+use Rattle.changing.specs.Windows.{heldIn, isMarked, markedAt, storedAt, windowEdit}
 
 -- ---- the same bytes
 
@@ -91,6 +93,51 @@ marked-at (q ∷ ps) marks p h =
     (λ e. rw e (by-test (among ps p) (λ t. rw t) (λ t. rw t)))
     (λ e. rw e))
 
+-- in a row that had none
+pub marked-only : (places marks : List ℕ) → ((p : ℕ) → isMarked marks p ≡ false) → (p : ℕ) → p < length marks
+    → isMarked (markedAt places marks) p ≡ among places p
+marked-only places marks none p l = marked-at places marks p l ∙ rw (none p) (by-test (among places p) (λ t. rw t) (λ t. rw t))
+
+-- ---- N at the places of a list
+
+-- the front of a row does not look at what is stored behind it
+take-set : (n : ℕ) (row : List ℕ) (p b : ℕ) → take n (set row p b) ≡ set (take n row) p b
+take-set zero row p b = refl
+take-set (suc n) [] p b = refl
+take-set (suc n) (x ∷ row) zero b = refl
+take-set (suc n) (x ∷ row) (suc p) b = ap (λ (l : List ℕ). x ∷ l) (take-set n row p b)
+
+pub take-stored : (n b : ℕ) (places row : List ℕ) → take n (storedAt b places row) ≡ storedAt b places (take n row)
+take-stored n b [] row = refl
+take-stored n b (p ∷ ps) row = take-stored n b ps (set row p b) ∙ ap (storedAt b ps) (take-set n row p b)
+
+pub length-stored : (b : ℕ) (places row : List ℕ) → length (storedAt b places row) ≡ length row
+length-stored b [] row = refl
+length-stored b (p ∷ ps) row = length-stored b ps (set row p b) ∙ length-set row p b
+
+mask-same : (i : ℕ) (t u : ℕ → Bool) → ((n : ℕ) → i ≤ n → t n ≡ u n) → (xs : List ℕ) → maskFrom i t xs ≡ maskFrom i u xs
+mask-same i t u h [] = refl
+mask-same i t u h (x ∷ xs) = rw (h i (omega arith), mask-same (suc i) t u (λ n l. h n (omega arith)) xs)
+
+-- an N that is stored is one that is masked
+mask-set : (i p q : ℕ) (t : ℕ → Bool) (xs : List ℕ) → q ≡ i + p → maskFrom i t (set xs p letterN) ≡ maskFrom i (λ n. eqb q n || t n) xs
+mask-set i p q t [] e = refl
+mask-set i zero q t (x ∷ xs) e =
+    rw (
+      eq-eqb q i (omega arith),
+      mask-same (suc i) (λ n. eqb q n || t n) t (λ n l. rw (ne-eqb q n (λ s. let z : ⊥ = omega arith in z))) xs,
+    )
+    (by-test (t i) (λ f. rw f) (λ f. rw f))
+mask-set i (suc p) q t (x ∷ xs) e = rw (ne-eqb q i (λ s. let z : ⊥ = omega arith in z), mask-set (suc i) p q t xs (omega arith))
+
+pub stored-is-masked : (places seq : List ℕ) → storedAt letterN places seq ≡ masked (among places) seq
+stored-is-masked [] seq = sym (unmasked 0 seq)
+  where
+    unmasked : (i : ℕ) (xs : List ℕ) → maskFrom i (among []) xs ≡ xs
+    unmasked i [] = refl
+    unmasked i (x ∷ xs) = ap (λ (r : List ℕ). x ∷ r) (unmasked (suc i) xs)
+stored-is-masked (p ∷ ps) seq = stored-is-masked ps (set seq p letterN) ∙ mask-set 0 p p (among ps) seq (omega arith)
+
 -- ---- the three edits
 
 -- where two tests pass at each place
@@ -128,17 +175,19 @@ module _ (ml? : Bool) (seq text ml : List ℕ) where
       (λ b. agree-all nowhere (isMarked []) (λ p. sym (unmarked-none p)) (tracked b seq))
       text ml
 
-  pub drop-is : (places marks : List ℕ) → length seq ≤ length marks → ((p : ℕ) → isMarked marks p ≡ false)
-      → edited (droppingAt places) ml? seq text ml ≡ edited (windowEdit 0 seq (markedAt places marks)) ml? seq text ml
+  -- with marks that say of each place of SEQ whether it is one of the list
+  pub drop-by-marks : (places marks : List ℕ) → ((p : ℕ) → p < length seq → isMarked marks p ≡ among places p)
+      → edited (droppingAt places) ml? seq text ml ≡ edited (windowEdit 0 seq marks) ml? seq text ml
   unfolding droppingAt tracked
-  drop-is places marks h none =
-      edited-same (droppingAt places) (windowEdit 0 seq (markedAt places marks)) ml? seq
+  drop-by-marks places marks named =
+      edited-same (droppingAt places) (windowEdit 0 seq marks) ml? seq
       (λ b. agree-both (inside 0 (length seq)) (λ p. holds b (getD seq p 0)) (λ p. true) (heldIn 0 seq b) (tracked b seq)
       (tracked-inside b seq) (places-pass (holds b) 0 seq seq refl)
       (λ p i k. sym (whole seq b (length seq) p (omega arith) i ∙ k)))
-      (λ b. agree-imp (inside 0 (length seq)) (λ p. true) (among places) (isMarked (markedAt places marks))
-      (λ p i. named p (inside-true 0 (length seq) p i .1)) (tracked b seq) (tracked-inside b seq))
+      (λ b. agree-imp (inside 0 (length seq)) (λ p. true) (among places) (isMarked marks)
+      (λ p i. sym (named p (omega (arith, inside-true 0 (length seq) p i .1)))) (tracked b seq) (tracked-inside b seq))
       text ml
-    where
-      named : (p : ℕ) → p < 0 + length seq → among places p ≡ isMarked (markedAt places marks) p
-      named p l = sym (marked-at places marks p (omega arith) ∙ rw (none p) (by-test (among places p) (λ t. rw t) (λ t. rw t)))
+
+  pub drop-is : (places marks : List ℕ) → length seq ≤ length marks → ((p : ℕ) → isMarked marks p ≡ false)
+      → edited (droppingAt places) ml? seq text ml ≡ edited (windowEdit 0 seq (markedAt places marks)) ml? seq text ml
+  drop-is places marks h none = drop-by-marks places (markedAt places marks) (λ p l. marked-only places marks none p (omega arith))

@@ -29,7 +29,11 @@ windowEdit lo after marks = record { stillHeld = heldIn lo after; dropped = isMa
 abbrev pub Unmarked : List ℕ → Type 0
 Unmarked marks = (16000 ≡ length marks) × ((p : ℕ) → isMarked marks p ≡ false)
 
--- a row with a mark at each place of a list, as far as the row reaches
+-- a row with the byte b at each place of a list, as far as the row reaches
+abbrev pub storedAt : ℕ → List ℕ → List ℕ → List ℕ
+storedAt b [] row = row
+storedAt b (p ∷ ps) row = storedAt b ps (set row p b)
+
+-- a row with a mark at each place of a list
 abbrev pub markedAt : List ℕ → List ℕ → List ℕ
-markedAt [] marks = marks
-markedAt (p ∷ ps) marks = markedAt ps (set marks p 1)
+markedAt places marks = storedAt 1 places marks

@@ -1,6 +1,6 @@
 // The one kind of edit: SEQ became `after`, which begins at place `lo` of what it was, and the calls at the marked places are dropped.
 ghost use mathlib.Core.Path.{_≡_};
-ghost use Rattle.changing.specs.Windows.{heldIn, isMarked, deniedIn, Unmarked, markedAt};
+ghost use Rattle.changing.specs.Windows.{heldIn, isMarked, deniedIn, Unmarked, storedAt};
 use tagtext::places::Place;
 use tagtext::places::counts;
 
@@ -47,13 +47,13 @@ pub fn no_marks() -> [u8; 16000]
     [0; 16000]
 }
 
-// Marks the places of a list, of any length and order; those past the row's end do nothing.
-pub fn mark_places(places: &[u32], marks: &mut [u8])
-    ensures { λ _. ⌜ now (marks .exit) ≡ markedAt (now (places .entry)) (now (marks .entry)) ⌝ }
+// Puts a byte at the places of a list, of any length and order; those past the row's end do nothing.
+pub fn mark_places(places: &[u32], row: &mut [u8], b: u8)
+    ensures { λ _. ⌜ now (row .exit) ≡ storedAt b (now (places .entry)) (now (row .entry)) ⌝ }
 {
     let mut i = 0;
     while i < places.len() {
-        tagtext::numbers::put(marks, places[i] as usize, 1);
+        tagtext::numbers::put(row, places[i] as usize, b);
         i += 1;
     }
 }

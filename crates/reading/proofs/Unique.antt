@@ -17,7 +17,7 @@ use Rattle.reading.specs.declared.Reading.the-variants as reading
 use Rattle.reading.specs.declared.Tallied.the-variants as tallied
 
 -- two answers that say the same are the same
-reading-says-inj : (a b : Reading) → readingSays a ≡ readingSays b → a ≡ b
+pub reading-says-inj : (a b : Reading) → readingSays a ≡ readingSays b → a ≡ b
 reading-says-inj (reading.Done g n) (reading.Done h m) e = let p : _≡_ {A = ℕ × ℕ} (g, n) (h, m) = done-inj e in λ j. reading.Done (p j .0) (p j .1)
 reading-says-inj (reading.Done g n) (reading.Refused r) e = let z : _≡_ {A = ℕ} 0 1 = cc in absurd (omega arith)
 reading-says-inj (reading.Refused q) (reading.Done h m) e = let z : _≡_ {A = ℕ} 0 1 = cc in absurd (omega arith)

@@ -77,7 +77,7 @@ pub fn drop_modifications_at(
         return Tagged::Refused(Refusal(1));
     }
     let mut marks = changing::changes::no_marks();
-    changing::changes::mark_places(places, &mut marks);
+    changing::changes::mark_places(places, &mut marks, 1);
     tags::edit_tag(seq, seq, &marks, mm, ml, 0, has_ml, mm_out, ml_out)
 }
 

@@ -52,9 +52,22 @@ paid-sum n b m l (inr some) h k = rw (pow-add 10 b l) (go (10 ^ b) (10 ^ l) (ten
 -- ---- a group's entries
 
 -- the bytes of the fields and of what leads or closes them
-abbrev fieldsLength : List (List ℕ) → ℕ
+abbrev pub fieldsLength : List (List ℕ) → ℕ
 fieldsLength [] = 0
 fieldsLength (f ∷ fs) = suc (length f) + fieldsLength fs
+
+-- what values weigh, each as w says: how many there are, or how long they are written
+abbrev pub weight : (ℕ → ℕ) → List ℕ → ℕ
+weight w [] = 0
+weight w (v ∷ vs) = w v + weight w vs
+
+weight-append : (w : ℕ → ℕ) (xs ys : List ℕ) → weight w (xs ++ ys) ≡ weight w xs + weight w ys
+weight-append w [] ys = omega arith
+weight-append w (x ∷ xs) ys = omega (arith, weight-append w xs ys)
+
+weight-one : (xs : List ℕ) → weight (λ v. 1) xs ≡ length xs
+weight-one [] = refl
+weight-one (x ∷ xs) = omega (arith, weight-one xs)
 
 -- what an edit does to the spots of a group: `held` are the places that are still of its kind
 abbrev pub change : (ℕ → Bool) → (ℕ → Bool) → List Spot → List Spot
@@ -106,15 +119,16 @@ module _ (held dropped : ℕ → Bool) where
       (λ t. rw t (by-test (held p) (λ u. rw u (omega (arith, calls-fewer ss))) (λ u. rw u (omega (arith, calls-fewer ss)))))
       (λ t. rw t (by-test (held p) (λ u. rw u (omega (arith, calls-fewer ss))) (λ u. rw u (omega (arith, calls-fewer ss)))))
 
-  values-fewer : (ss : List Spot) → length (concatMap valuesOf (change held dropped ss)) ≤ length (concatMap valuesOf ss)
-  values-fewer [] = omega arith
-  values-fewer (bare p ∷ ss) = by-test (held p) (λ u. rw u (values-fewer ss)) (λ u. rw u (values-fewer ss))
-  values-fewer (call p vs ∷ ss) =
-      let ih = values-fewer ss in
-      let all = length-append vs (concatMap valuesOf ss) in
+  values-lighter : (w : ℕ → ℕ) (ss : List Spot) → weight w (concatMap valuesOf (change held dropped ss)) ≤ weight w (concatMap valuesOf ss)
+  values-lighter w [] = omega arith
+  values-lighter w (bare p ∷ ss) = by-test (held p) (λ u. rw u (values-lighter w ss)) (λ u. rw u (values-lighter w ss))
+  values-lighter w (call p vs ∷ ss) =
+      let ih = values-lighter w ss in
+      let all = weight-append w vs (concatMap valuesOf ss) in
       by-test (dropped p)
       (λ t. rw t (by-test (held p) (λ u. rw u (omega arith)) (λ u. rw u (omega arith))))
-      (λ t. rw t (by-test (held p) (λ u. rw u (omega (arith, length-append vs (concatMap valuesOf (change held dropped ss))))) (λ u. rw u (omega arith))))
+      (λ t. rw t
+      (by-test (held p) (λ u. rw u (omega (arith, weight-append w vs (concatMap valuesOf (change held dropped ss))))) (λ u. rw u (omega arith))))
 
 -- ---- the whole text
 
@@ -123,7 +137,7 @@ abbrev pub callCount : List Group → ℕ
 callCount [] = 0
 callCount (g ∷ gs) = length (callsIn (g .spots)) + callCount gs
 
-piece-length : (g : List ℕ) → length (upTo comma g) + fieldsLength (ledBy comma g) ≡ length g
+pub piece-length : (g : List ℕ) → length (upTo comma g) + fieldsLength (ledBy comma g) ≡ length g
 piece-length [] = refl
 piece-length (x ∷ xs) = by-test (eqb x comma) (λ e. rw e (omega (arith, piece-length xs))) (λ e. rw e (omega (arith, piece-length xs)))
 
@@ -161,16 +175,16 @@ module _ (e : Edit) where
   count-fewer [] = omega arith
   count-fewer (g ∷ gs) = omega (arith, calls-fewer (e .stillHeld (baseOf (g .header))) (e .dropped) (g .spots), count-fewer gs)
 
-  ml-length : (gs : List Group) → length (mlOf (map (changed e) gs)) ≤ length (mlOf gs)
+  ml-lighter : (w : ℕ → ℕ) (gs : List Group) → weight w (mlOf (map (changed e) gs)) ≤ weight w (mlOf gs)
   unfolding mlOf changed
-  ml-length [] = omega arith
-  ml-length (g ∷ gs) =
+  ml-lighter w [] = omega arith
+  ml-lighter w (g ∷ gs) =
       omega (
         arith,
-        length-append (concatMap valuesOf (change (e .stillHeld (baseOf (g .header))) (e .dropped) (g .spots))) (mlOf (map (changed e) gs)),
-        length-append (concatMap valuesOf (g .spots)) (mlOf gs),
-        values-fewer (e .stillHeld (baseOf (g .header))) (e .dropped) (g .spots),
-        ml-length gs,
+        weight-append w (concatMap valuesOf (change (e .stillHeld (baseOf (g .header))) (e .dropped) (g .spots))) (mlOf (map (changed e) gs)),
+        weight-append w (concatMap valuesOf (g .spots)) (mlOf gs),
+        values-lighter (e .stillHeld (baseOf (g .header))) (e .dropped) w (g .spots),
+        ml-lighter w gs,
       )
 
   -- each call that goes saves at least one byte of text
@@ -178,6 +192,16 @@ module _ (e : Edit) where
       → length (textOf (map (changed e) gs)) + callCount gs ≤ length text + callCount (map (changed e) gs)
   each-call-saves ml? seq text ml gs r =
       omega (arith, groups-length (tag-read ml? (e .dropped) seq text ml gs r .groups), text-length text)
+
+  -- the edited ML is never heavier than what came in: its values are some of those
+  pub never-heavier : (w : ℕ → ℕ) (ml? : Bool) (seq text ml : List ℕ) (r : Tag) → edited e ml? seq text ml ≡ done r
+      → weight w (r .ml) ≤ weight w (cond ml? ml [])
+  unfolding edited written
+  never-heavier w ml? seq text ml r o =
+      let i = and-then-inv (read ml? (e .dropped) seq text ml) _ r o in
+      let gs = i .0 in
+      subst (λ (q : Tag). weight w (q .ml) ≤ weight w (cond ml? ml [])) (done-inj (i .2))
+      (omega (arith, ml-lighter w gs, ap (weight w) (tag-used (tag-read ml? (e .dropped) seq text ml gs (i .1)))))
 
   -- the edited text and ML are never longer than what came in
   pub never-longer : (ml? : Bool) (seq text ml : List ℕ) (r : Tag) → edited e ml? seq text ml ≡ done r
@@ -188,5 +212,11 @@ module _ (e : Edit) where
       let gs = i .0 in
       subst (λ (q : Tag). (length (q .text) ≤ length text) × (length (q .ml) ≤ length (cond ml? ml []))) (done-inj (i .2)) (
         omega (arith, each-call-saves ml? seq text ml gs (i .1), count-fewer gs),
-        omega (arith, ml-length gs, ap length (tag-used (tag-read ml? (e .dropped) seq text ml gs (i .1)))),
+        omega (
+          arith,
+          ml-lighter (λ v. 1) gs,
+          weight-one (mlOf (map (changed e) gs)),
+          weight-one (mlOf gs),
+          ap length (tag-used (tag-read ml? (e .dropped) seq text ml gs (i .1))),
+        ),
       )

@@ -28,3 +28,4 @@ pub mod Kept
 pub mod MlValue
 pub mod SameEdit
 pub mod Taken
+pub mod TableNumbers

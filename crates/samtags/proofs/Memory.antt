@@ -19,41 +19,47 @@ use Rattle.samtags.specs.Edits.{edited, maskedTo, droppingAt, cutTo}
 use Rattle.samtags.specs.Session.{Step, mask, dropCalls, cut, Held, masked, window, heldWith, stepped, afterStep, run, answers, Memory, heldIn, stored, lengthsInDomain, lengthsInBuffers, inOrder, openSession, stepInMemory, runInMemory, answersInMemory}
 use Rattle.samtags.specs.Meaning.{opening, leftOfListing, leftOfSeq, afterSteps, answersTo, refusedSteps, isRefusal}
 use Rattle.lent.proofs.Outcome.{need-test, need-rest}
-use Rattle.samtags.proofs.Length.{never-longer}
+use Rattle.samtags.proofs.Length.{never-longer, never-heavier, weight}
 use Rattle.samtags.proofs.SessionMeaning.{mask-length, session-meaning, refused-steps}
 
 -- ---- a step lets nothing grow, and leaves alone an ML that there is not
 
-record No-longer (ml? : Bool) (h s : Held) : Type 0 where
-  seq-in : length (s .seq) ≤ length (h .seq)
-  text-in : length (s .text) ≤ length (h .text)
-  ml-in : length (s .ml) ≤ length (h .ml)
-  ml-kept : ml? ≡ false → s .ml ≡ h .ml
+pub record No-longer (ml? : Bool) (h s : Held) : Type 0 where
+  pub seq-in : length (s .seq) ≤ length (h .seq)
+  pub text-in : length (s .text) ≤ length (h .text)
+  pub ml-in : length (s .ml) ≤ length (h .ml)
+  pub ml-lighter : (w : ℕ → ℕ) → weight w (s .ml) ≤ weight w (h .ml)
+  pub ml-kept : ml? ≡ false → s .ml ≡ h .ml
 
 -- what an outcome gives, if it gives anything, is no longer
-abbrev Shrinks : Bool → Held → Outcome Held → Type 0
+abbrev pub Shrinks : Bool → Held → Outcome Held → Type 0
 Shrinks ml? h (refused r) = Unit {0}
 Shrinks ml? h (done s) = No-longer ml? h s
 
 shrinks-with : (ml? : Bool) (h : Held) (after : List ℕ) → length after ≤ length (h .seq) → (o : Outcome Tag)
     → ((r : Tag) → o ≡ done r → (length (r .text) ≤ length (h .text)) × (length (r .ml) ≤ length (cond ml? (h .ml) [])))
+    → ((w : ℕ → ℕ) (r : Tag) → o ≡ done r → weight w (r .ml) ≤ weight w (cond ml? (h .ml) []))
     → Shrinks ml? h (heldWith ml? h after o)
-shrinks-with ml? h after l (refused r) f = tt
-shrinks-with true h after l (done r) f = record { seq-in = l; text-in = f r refl .0; ml-in = f r refl .1; ml-kept = λ e. cc }
-shrinks-with false h after l (done r) f = record { seq-in = l; text-in = f r refl .0; ml-in = omega arith; ml-kept = λ e. refl }
+shrinks-with ml? h after l (refused r) f g = tt
+shrinks-with true h after l (done r) f g =
+    record { seq-in = l; text-in = f r refl .0; ml-in = f r refl .1; ml-lighter = λ w. g w r refl; ml-kept = λ e. cc }
+shrinks-with false h after l (done r) f g =
+    record { seq-in = l; text-in = f r refl .0; ml-in = omega arith; ml-lighter = λ w. omega arith; ml-kept = λ e. refl }
 
 window-length : (a n : ℕ) (xs : List ℕ) → length (window a n xs) ≤ length xs
 window-length a n xs = omega (arith, length-take n (drop a xs), length-drop a xs)
 
-step-shrinks : (ml? : Bool) (t : Step) (h : Held) → Shrinks ml? h (stepped ml? t h)
+pub step-shrinks : (ml? : Bool) (t : Step) (h : Held) → Shrinks ml? h (stepped ml? t h)
 unfolding stepped
 step-shrinks ml? (mask ps) h =
     let after = masked (among ps) (h .seq) in
     shrinks-with ml? h after (omega (arith, mask-length 0 (among ps) (h .seq))) (edited (maskedTo after) ml? (h .seq) (h .text) (h .ml))
     (λ r e. never-longer (maskedTo after) ml? (h .seq) (h .text) (h .ml) r e)
+    (λ w r e. never-heavier (maskedTo after) w ml? (h .seq) (h .text) (h .ml) r e)
 step-shrinks ml? (dropCalls ps) h =
     shrinks-with ml? h (h .seq) (omega arith) (edited (droppingAt ps) ml? (h .seq) (h .text) (h .ml))
     (λ r e. never-longer (droppingAt ps) ml? (h .seq) (h .text) (h .ml) r e)
+    (λ w r e. never-heavier (droppingAt ps) w ml? (h .seq) (h .text) (h .ml) r e)
 step-shrinks ml? (cut f b) h =
     let n = length (h .seq) - (f + b) in
     let after = window f n (h .seq) in
@@ -61,18 +67,19 @@ step-shrinks ml? (cut f b) h =
     (λ z. rw z tt)
     (λ z. rw z (by-test (leb (f + b) (length (h .seq)))
     (λ e. rw e (shrinks-with ml? h after (window-length f n (h .seq)) (edited (cutTo f after) ml? (h .seq) (h .text) (h .ml))
-    (λ r e. never-longer (cutTo f after) ml? (h .seq) (h .text) (h .ml) r e)))
+    (λ r e. never-longer (cutTo f after) ml? (h .seq) (h .text) (h .ml) r e)
+    (λ w r e. never-heavier (cutTo f after) w ml? (h .seq) (h .text) (h .ml) r e)))
     (λ e. rw e tt)))
 
 -- ---- lengths that are in order
 
-record In-order (ml? : Bool) (m : Memory) : Type 0 where
-  seq-domain : m .lengths .seq ≤ 16000
-  text-domain : m .lengths .text ≤ 65536
-  ml-domain : ml? ≡ true → m .lengths .ml ≤ 65536
-  seq-buffer : m .lengths .seq ≤ length (m .seq)
-  text-buffer : m .lengths .text ≤ length (m .text)
-  ml-buffer : ml? ≡ true → m .lengths .ml ≤ length (m .ml)
+pub record In-order (ml? : Bool) (m : Memory) : Type 0 where
+  pub seq-domain : m .lengths .seq ≤ 16000
+  pub text-domain : m .lengths .text ≤ 65536
+  pub ml-domain : ml? ≡ true → m .lengths .ml ≤ 65536
+  pub seq-buffer : m .lengths .seq ≤ length (m .seq)
+  pub text-buffer : m .lengths .text ≤ length (m .text)
+  pub ml-buffer : ml? ≡ true → m .lengths .ml ≤ length (m .ml)
 
 if-ml : (ml? t : Bool) → cond ml? t true ≡ true → ml? ≡ true → t ≡ true
 if-ml true t e h = e
@@ -144,10 +151,10 @@ in-order-is : {A : Type 0} (ml? : Bool) (m : Memory) → In-order ml? m → (o :
 in-order-is ml? m i o = rw (domain-test ml? m i, buffers-test ml? m i)
 
 -- a step in memory does to what is held what the step does
-record Follows (ml? : Bool) (m : Memory) (o : Outcome Held) (r : Outcome Memory) : Type 0 where
-  held-then : heldIn (afterStep m r) ≡ afterStep (heldIn m) o
-  number-then : numberOf r ≡ numberOf o
-  order-then : In-order ml? (afterStep m r)
+pub record Follows (ml? : Bool) (m : Memory) (o : Outcome Held) (r : Outcome Memory) : Type 0 where
+  pub held-then : heldIn (afterStep m r) ≡ afterStep (heldIn m) o
+  pub number-then : numberOf r ≡ numberOf o
+  pub order-then : In-order ml? (afterStep m r)
 
 follows : (ml? : Bool) (m : Memory) → In-order ml? m → (o : Outcome Held) → Shrinks ml? (heldIn m) o
     → Follows ml? m o (andThen o (λ s. done (stored ml? m s)))
@@ -155,7 +162,7 @@ follows ml? m i (refused r) w = record { held-then = refl; number-then = refl; o
 follows ml? m i (done s) w =
     record { held-then = stored-held m s ml? w; number-then = refl; order-then = stored-in-order m s ml? i w }
 
-step-follows : (ml? : Bool) (t : Step) (m : Memory) → In-order ml? m → Follows ml? m (stepped ml? t (heldIn m)) (stepInMemory ml? t m)
+pub step-follows : (ml? : Bool) (t : Step) (m : Memory) → In-order ml? m → Follows ml? m (stepped ml? t (heldIn m)) (stepInMemory ml? t m)
 unfolding stepInMemory
 step-follows ml? t m i =
     rw (in-order-is ml? m i (andThen (stepped ml? t (heldIn m)) (λ s. done (stored ml? m s))))
@@ -172,6 +179,12 @@ run-follows ml? (t ∷ ts) m i =
       rw (f .number-then, rest .1, f .held-then),
     )
 
+-- lengths in order stay so
+run-in-order : (ml? : Bool) (ts : List Step) (m : Memory) → In-order ml? m → In-order ml? (runInMemory ml? ts m)
+unfolding runInMemory
+run-in-order ml? [] m i = i
+run-in-order ml? (t ∷ ts) m i = run-in-order ml? ts (afterStep m (stepInMemory ml? t m)) (step-follows ml? t m i .order-then)
+
 -- ---- the theorem
 
 -- SEQ, the listing and the answers at the end, read off the buffers, are functions of the opening and the steps alone.
@@ -182,14 +195,22 @@ pub record Session-in-memory (ml? : Bool) (m : Memory) (ls : List Listing) (ts :
       ≡ done (map (leftOfListing (afterSteps ls ts (opening (heldIn m .seq)))) ls)
   pub answers-then : answersInMemory ml? ts m ≡ answersTo ls ts (opening (heldIn m .seq))
 
+-- a session whose opening is accepted
+opened-in-order : (ml? : Bool) (m : Memory) (ls : List Listing) → openSession ml? m ≡ done ls
+    → In-order ml? m × (lists ml? (heldIn m .seq) (heldIn m .text) (heldIn m .ml) ≡ done ls)
+unfolding openSession
+opened-in-order ml? m ls e =
+    let e₂ = need-rest (lengthsInDomain ml? (m .lengths)) 1 _ ls e in (
+      order-of-tests ml? m (need-test (lengthsInDomain ml? (m .lengths)) 1 _ ls e) (need-test (lengthsInBuffers ml? m) 2 _ ls e₂),
+      need-rest (lengthsInBuffers ml? m) 2 _ ls e₂,
+    )
+
 -- Demand 3: a session whose opening is accepted, with and without ML, on buffers of any length, comes to what it means, whatever its steps.
 pub session-in-memory : (ml? : Bool) (m : Memory) (ls : List Listing) → openSession ml? m ≡ done ls → (ts : List Step) → Session-in-memory ml? m ls ts
-unfolding openSession
 session-in-memory ml? m ls e ts =
-    let e₂ = need-rest (lengthsInDomain ml? (m .lengths)) 1 _ ls e in
-    let i = order-of-tests ml? m (need-test (lengthsInDomain ml? (m .lengths)) 1 _ ls e) (need-test (lengthsInBuffers ml? m) 2 _ ls e₂) in
-    let f = run-follows ml? ts m i in
-    let w = session-meaning ml? (heldIn m) ls (need-rest (lengthsInBuffers ml? m) 2 _ ls e₂) ts in
+    let o = opened-in-order ml? m ls e in
+    let f = run-follows ml? ts m (o .0) in
+    let w = session-meaning ml? (heldIn m) ls (o .1) ts in
     record {
       seq-then = ap (λ (h : Held). h .seq) (f .0) ∙ w .seq-then;
       lists-then = ap (λ (h : Held). lists ml? (h .seq) (h .text) (h .ml)) (f .0) ∙ w .lists-then;
@@ -208,3 +229,11 @@ refused-changes-nothing ml? t m h = by-outcome (stepInMemory ml? t m) h
     by-outcome : (o : Outcome Memory) → 0 < numberOf o → afterStep m o ≡ m
     by-outcome (refused r) h = refl
     by-outcome (done n) h = let z : ⊥ = omega arith in absurd z
+
+-- Such a session can be opened again after any steps, and then lists what is left.
+pub opens-again : (ml? : Bool) (m : Memory) (ls : List Listing) → openSession ml? m ≡ done ls → (ts : List Step)
+    → openSession ml? (runInMemory ml? ts m) ≡ done (map (leftOfListing (afterSteps ls ts (opening (heldIn m .seq)))) ls)
+unfolding openSession
+opens-again ml? m ls e ts =
+    in-order-is ml? (runInMemory ml? ts m) (run-in-order ml? ts m (opened-in-order ml? m ls e .0)) _
+    ∙ session-in-memory ml? m ls e ts .lists-then

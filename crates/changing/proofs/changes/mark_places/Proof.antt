@@ -6,17 +6,17 @@ use native.Mathlib.Omega.{arith}
 use mathlib.Core.List.{List}
 use lib.ListN.{drop, drop-of-length-le, getD, length, set}
 use borrow.Author.Needs.{needs}
-use Rattle.changing.specs.Windows.{markedAt}
+use Rattle.changing.specs.Windows.{storedAt}
 use Rattle.lent.proofs.Lists.{drop-here}
 use Rattle.changing.proofs.changes.mark_places.Statement.{statement}
 use Rattle.changing.proofs.changes.mark_places.Tie as tie
 
 abbrev Inv-loop : tie.InvT-loop
-Inv-loop places marks₀ i₀ marks i =
-    (i ≤ length places) × (markedAt places marks₀ ≡ markedAt (drop i places) marks) × (length marks ≡ length marks₀)
+Inv-loop places row₀ b i₀ row i =
+    (i ≤ length places) × (storedAt b places row₀ ≡ storedAt b (drop i places) row) × (length row ≡ length row₀)
 
 abbrev μ-loop : tie.MeasureT-loop
-μ-loop places marks₀ i₀ marks i = length places - i
+μ-loop places row₀ b i₀ row i = length places - i
 
 loop-holds : tie.Need-loop-holds Inv-loop μ-loop
 loop-holds c = (omega arith, refl, refl)
@@ -44,11 +44,11 @@ loop-again c =
     let h = c .before .before .before .before .before .before .loop in
     let a = c .before .before .before .before .before .before .before .before .before .args in
     let p = c .before .before .put in
-    let on : markedAt (drop (h .i) (a .places .now)) (h .marks) ≡ markedAt (drop (h .i + 1) (a .places .now)) (set (h .marks) (getD (a .places .now)
-    (h .i) 0) 1) =
-    ap (λ (ps : List ℕ). markedAt ps (h .marks)) (drop-here (a .places .now) (h .i) 0 (omega arith)) in (
+    let on : storedAt (a .b) (drop (h .i) (a .places .now)) (h .row) ≡ storedAt (a .b) (drop (h .i + 1) (a .places .now)) (set (h .row) (getD (a .places .now)
+    (h .i) 0) (a .b)) =
+    ap (λ (ps : List ℕ). storedAt (a .b) ps (h .row)) (drop-here (a .places .now) (h .i) 0 (omega arith)) in (
       omega arith,
-      h .inv .1 ∙ on ∙ ap (markedAt (drop (h .i + 1) (a .places .now))) (sym (p .ensures)),
+      h .inv .1 ∙ on ∙ ap (storedAt (a .b) (drop (h .i + 1) (a .places .now))) (sym (p .ensures)),
       p .kept .0 ∙ h .inv .2,
     )
 
@@ -59,7 +59,7 @@ returns : tie.Need-returns Inv-loop μ-loop
 returns c =
     let h = c .before .loop in
     let a = c .before .before .before .before .args in
-    sym (h .inv .1 ∙ ap (λ (ps : List ℕ). markedAt ps (h .marks)) (drop-of-length-le (a .places .now) (c .loop-test .left)))
+    sym (h .inv .1 ∙ ap (λ (ps : List ℕ). storedAt (a .b) ps (h .row)) (drop-of-length-le (a .places .now) (c .loop-test .left)))
 
 pub mark-places-spec : {M : Type 1} → statement M
 mark-places-spec =

@@ -1,8 +1,11 @@
 -- `still_held`: a place before the window and one past it are gone; inside, the byte decides.
 -- Assumes nothing.
-use mathlib.Core.Path.{_∙_, sym}
+use mathlib.Core.Path.{_∙_, _≡_, sym}
+use Prim.Native.Nat.{_-_}
 use native.Mathlib.Omega.{arith}
+use lib.ListN.{getD}
 use borrow.Author.Needs.{needs}
+use Rattle.samtags.specs.Spots.{holds}
 use Rattle.changing.proofs.EntryLaws.{held-before, held-inside, held-past}
 use Rattle.changing.proofs.changes.still_held.Statement.{statement}
 use Rattle.changing.proofs.changes.still_held.Tie as tie
@@ -26,7 +29,8 @@ counts-requires c κs = search needs
 returns-3 : tie.Need-returns-3
 returns-3 c =
     let a = c .before .before .before .before .before .args in
-    c .counts .ensures ∙ sym (held-inside (a .lo) (a .after .now) (a .base) (a .place .0) (omega arith) (omega arith))
+    let counted : c .counts .result ≡ holds (a .base) (getD (a .after .now) (a .place .0 - a .lo) 0) = c .counts .ensures in
+    counted ∙ sym (held-inside (a .lo) (a .after .now) (a .base) (a .place .0) (omega arith) (omega arith))
 
 pub still-held-spec : {M : Type 1} → statement M
 still-held-spec =

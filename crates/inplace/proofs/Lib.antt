@@ -1,0 +1,3 @@
+pub mod RowLaws
+pub mod AheadLaws
+pub mod OwnRowLaws

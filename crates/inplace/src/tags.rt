@@ -1,0 +1,39 @@
+// A whole tag, edited in its own rows: measured first, so that a refusal writes nothing, and then written by a walk that can no longer refuse.
+ghost use mathlib.Core.Path.{_≡_};
+ghost use mathlib.Core.Bool.{cond};
+ghost use Prim.Native.Nat.{_≤_};
+ghost use lib.ListN.{length};
+ghost use Rattle.lent.specs.Outcome.{tagSays};
+ghost use Rattle.samtags.specs.Edits.{edited};
+ghost use Rattle.changing.specs.Windows.{windowEdit};
+ghost use Rattle.editing.specs.Rewrote.{rewrote, leavesTag};
+use crate::walk;
+use editing::tags;
+use editing::walk::Edited;
+use lent::Tagged;
+
+// Edits a tag where it stands: the reader's numbers and 10, and with any refusal the rows stay as they were. No room is asked for, since an edited tag
+// is never longer. Without an ML its row is not looked at.
+pub fn edit_in_place(
+    seq: &[u8],
+    after: &[u8],
+    marks: &[u8],
+    lo: usize,
+    has_ml: bool,
+    text: &mut [u8],
+    ml: &mut [u8],
+) -> Tagged
+    requires { ⌜ (length (now seq) ≤ 16000) × (length (now text) ≤ 65536) × (cond «has_ml» (length (now ml)) 0 ≤ 65536) ⌝ }
+    ensures { λ r. ⌜ rewrote (tagSays r) (now (text .exit)) (now (ml .exit))
+        ≡ leavesTag «has_ml»
+        (edited (windowEdit lo (now (after .entry)) (now (marks .entry))) «has_ml» (now (seq .entry)) (now (text .entry)) (now (ml .entry)))
+        (now (text .entry)) (now (ml .entry)) ⌝ }
+{
+    let taken = scanning::values_taken(ml.len(), has_ml);
+    let measured = tags::measure(seq, after, marks, text, &ml[0..taken], lo, has_ml);
+    let Edited::To(size) = measured else {
+        return Tagged::Refused(measured.refusal());
+    };
+    walk::edit_groups(seq, after, marks, lo, has_ml, text, &mut ml[0..taken]);
+    Tagged::Done(size.end, size.kept)
+}

@@ -1,0 +1,5 @@
+pub mod UpToLaws
+pub mod MarkLaws
+pub mod NumberLaws
+pub mod OutputLaws
+pub mod SizeLaws

@@ -1,0 +1,127 @@
+-- Demand 3 about this code, from the contracts of `open`, `mask`, `drop_calls` and `cut` alone: for any list of calls, each of which finds the rows and
+-- the lengths as the one before left them, the rows at the end and all the answers are what a session means. With and without ML.
+-- Assumes nothing.
+use mathlib.Core.Path.{_≡_, refl, sym, ap, _∙_}
+use Prim.Native.Nat.{ℕ, _<_}
+use native.Mathlib.Omega.{arith}
+use mathlib.Core.Bool.{Bool}
+use mathlib.Core.List.{List, [], _∷_, map}
+use Rattle.lent.proofs.Outcome.{done-inj, need-rest, on-done-inv}
+use Rattle.lent.specs.Outcome.{Outcome, done, numberOf, onDone, refused}
+use Rattle.reading.specs.Calls.{countsOf}
+use Rattle.samtags.proofs.Memory.{session-in-memory}
+use Rattle.samtags.proofs.Memory as memory
+use Rattle.samtags.specs.Meaning.{afterSteps, answersTo, isRefusal, leftOfListing, leftOfSeq, opening, refusedSteps}
+use Rattle.samtags.specs.Reading.{lists}
+use Rattle.samtags.specs.Session.{Lengths as Held-lengths, Memory, Step, afterStep, answersInMemory, heldIn, lengthsInBuffers, lengthsInDomain}
+use Rattle.samtags.specs.Session.{openSession, runInMemory, stepInMemory}
+use Rattle.samtags.specs.Spots.{Listing}
+use Rattle.stepping.specs.Steps.{Came, came, leavesMemory, lengthsOf, memory as inRows, stepSays}
+use Rattle.stepping.specs.declared.Lengths.{Lengths}
+use Rattle.stepping.specs.declared.Stepped.{Stepped}
+use Rattle.stepping.specs.declared.Stepped.the-variants as stepped
+use Rattle.session.specs.Chain.{Call, Chain, Meets, Opened, Rows, atEnd, inMemory, leftBy, lengthsAfter, mlIn, numbersOf, seqIn, stepsOf, textIn}
+
+-- ---- call by call
+
+-- rows are known from the memory that they are
+same-rows : (w u : Rows) → inMemory w ≡ inMemory u → w ≡ u
+same-rows w u e = λ j. record {
+  seq = e j .seq;
+  mm = e j .text;
+  ml = e j .ml;
+  lengths = record { seq = e j .lengths .seq; mm = e j .lengths .text; ml = e j .lengths .ml };
+}
+
+-- the rows m that a step was given and what it came to, by its answer
+by-answer : (m : Memory) (old : Lengths) → m .lengths ≡ lengthsOf old → (r : Stepped) (o : Outcome Memory) (s t v : List ℕ)
+    → came (stepSays r) s t v ≡ leavesMemory m o → (inRows s t v (lengthsAfter r old) ≡ afterStep m o) × (numberOf (stepSays r) ≡ numberOf o)
+unfolding leavesMemory
+by-answer m old l (stepped.Done n) (done k) s t v e =
+    let is : lengthsOf n ≡ k .lengths = done-inj (ap (λ (x : Came). x .answer) e) in
+    (λ j. record { seq = e j .seq; text = e j .text; ml = e j .ml; lengths = is j }, refl)
+by-answer m old l (stepped.Done n) (refused q) s t v e =
+    let x : _≡_ {A = Outcome Held-lengths} (done (lengthsOf n)) (refused q) = ap (λ (x : Came). x .answer) e in
+    let z : _≡_ {A = ℕ} 0 1 = cc in absurd (omega arith)
+by-answer m old l (stepped.Refused r) (done k) s t v e =
+    let x : _≡_ {A = Outcome Held-lengths} (refused r) (done (k .lengths)) = ap (λ (x : Came). x .answer) e in
+    let z : _≡_ {A = ℕ} 0 1 = cc in absurd (omega arith)
+by-answer m old l (stepped.Refused r) (refused q) s t v e =
+    (λ j. record { seq = e j .seq; text = e j .text; ml = e j .ml; lengths = sym l j }, ap (λ (x : Came). numberOf (x .answer)) e)
+
+-- a call does to memory what its step does
+follows : (ml? : Bool) (w : Rows) (c : Call) → Meets ml? w c
+    → (inMemory (leftBy w c) ≡ afterStep (inMemory w) (stepInMemory ml? (c .asked) (inMemory w)))
+    × (numberOf (stepSays (c .answered)) ≡ numberOf (stepInMemory ml? (c .asked) (inMemory w)))
+follows ml? w c e = by-answer (inMemory w) (w .lengths) refl (c .answered) (stepInMemory ml? (c .asked) (inMemory w)) (c .seq) (c .mm) (c .ml) e
+
+-- the calls do what a run of their steps in memory does
+pub chain-runs : (ml? : Bool) (cs : List Call) (w : Rows) → Chain ml? w cs
+    → (inMemory (atEnd w cs) ≡ runInMemory ml? (stepsOf cs) (inMemory w)) × (numbersOf cs ≡ answersInMemory ml? (stepsOf cs) (inMemory w))
+unfolding runInMemory answersInMemory
+chain-runs ml? [] w k = (refl, refl)
+chain-runs ml? (c ∷ cs) w k =
+    let f = follows ml? w c (k .0) in
+    let rest = chain-runs ml? cs (leftBy w c) (k .1) in (
+      rest .0 ∙ ap (runInMemory ml? (stepsOf cs)) (f .0),
+      λ j. f .1 j ∷ (rest .1 ∙ ap (answersInMemory ml? (stepsOf cs)) (f .0)) j,
+    )
+
+-- ---- the theorem
+
+-- SEQ, the listing and the answers at the end are functions of the opening and the steps alone
+pub record As-meant (ml? : Bool) (w : Rows) (ls : List Listing) (cs : List Call) : Type 0 where
+  pub seq-then : seqIn (atEnd w cs) ≡ leftOfSeq (afterSteps ls (stepsOf cs) (opening (seqIn w))) (seqIn w)
+  pub lists-then :
+      (let end = atEnd w cs in lists ml? (seqIn end) (textIn end) (mlIn end))
+      ≡ done (map (leftOfListing (afterSteps ls (stepsOf cs) (opening (seqIn w)))) ls)
+  pub answers-then : numbersOf cs ≡ answersTo ls (stepsOf cs) (opening (seqIn w))
+  -- opened again, it has as many groups and calls as are left
+  pub opens-then : onDone countsOf (openSession ml? (inMemory (atEnd w cs)))
+      ≡ done (countsOf (map (leftOfListing (afterSteps ls (stepsOf cs) (opening (seqIn w)))) ls))
+  -- refused are exactly the drops of a listed call under a header that does not end in '?', and the cuts of more than SEQ holds
+  pub refused-exactly : map isRefusal (numbersOf cs) ≡ refusedSteps ls (stepsOf cs) (opening (seqIn w))
+
+module _ (ml? : Bool) (w : Rows) where
+  -- what a session that was opened lists
+  opened-lists : (ls : List Listing) → openSession ml? (inMemory w) ≡ done ls → lists ml? (seqIn w) (textIn w) (mlIn w) ≡ done ls
+  unfolding openSession
+  opened-lists ls e =
+      need-rest (lengthsInBuffers ml? (inMemory w)) 2 _ ls (need-rest (lengthsInDomain ml? (lengthsOf (w .lengths))) 1 _ ls e)
+
+  as-meant : (ls : List Listing) → openSession ml? (inMemory w) ≡ done ls → (cs : List Call) → Chain ml? w cs → As-meant ml? w ls cs
+  as-meant ls e cs k =
+      let r = chain-runs ml? cs w k in
+      let m = session-in-memory ml? (inMemory w) ls e (stepsOf cs) in
+      record {
+        seq-then = ap (λ (n : Memory). heldIn n .seq) (r .0) ∙ m .seq-then;
+        lists-then = ap (λ (n : Memory). lists ml? (heldIn n .seq) (heldIn n .text) (heldIn n .ml)) (r .0) ∙ m .lists-then;
+        answers-then = r .1 ∙ m .answers-then;
+        opens-then = ap (onDone countsOf) (ap (openSession ml?) (r .0) ∙ memory.opens-again ml? (inMemory w) ls e (stepsOf cs));
+        refused-exactly = ap (map isRefusal) (r .1) ∙ memory.refused-exactly ml? (inMemory w) ls e (stepsOf cs);
+      }
+
+  -- Demand 3: where `open` answered Done, the tag lists as many groups and calls as it said; and whatever calls follow, the session comes to what it
+  -- means.
+  pub session-as-meant : (groups calls : ℕ) → Opened ml? w groups calls → (cs : List Call) → Chain ml? w cs
+      → (ls : List Listing) × (lists ml? (seqIn w) (textIn w) (mlIn w) ≡ done ls)
+      × (_≡_ {A = ℕ × ℕ} (countsOf ls) (groups, calls)) × As-meant ml? w ls cs
+  session-as-meant groups calls opened cs k =
+      let (ls, e, counted) = on-done-inv countsOf (openSession ml? (inMemory w)) (groups, calls) (sym opened) in
+      (ls, opened-lists ls e, counted, as-meant ls e cs k)
+
+-- A call that answers a number, a refusal's or 21, changes nothing: every row and every length is as it was.
+pub refused-changes-nothing : (ml? : Bool) (w : Rows) (c : Call) → Meets ml? w c → 0 < numberOf (stepSays (c .answered)) → leftBy w c ≡ w
+refused-changes-nothing ml? w c e l =
+    let f = follows ml? w c e in
+    same-rows (leftBy w c) w (f .0 ∙ memory.refused-changes-nothing ml? (c .asked) (inMemory w) (omega (arith, l, f .1)))
+
+-- The whole session is settled: two lists of calls that ask for the same steps of the same rows leave the same rows and give the same numbers.
+pub session-unique : (ml? : Bool) (w : Rows) (cs ds : List Call) → stepsOf cs ≡ stepsOf ds → Chain ml? w cs → Chain ml? w ds
+    → (atEnd w cs ≡ atEnd w ds) × (numbersOf cs ≡ numbersOf ds)
+session-unique ml? w cs ds e k l =
+    let a = chain-runs ml? cs w k in
+    let b = chain-runs ml? ds w l in (
+      same-rows (atEnd w cs) (atEnd w ds) (a .0 ∙ ap (λ (ts : List Step). runInMemory ml? ts (inMemory w)) e ∙ sym (b .0)),
+      a .1 ∙ ap (λ (ts : List Step). answersInMemory ml? ts (inMemory w)) e ∙ sym (b .1),
+    )

@@ -1,0 +1,4 @@
+pub mod Opening
+pub mod Unique
+pub mod Demand
+pub mod Examples

@@ -1,0 +1,6 @@
+pub mod Examples
+pub mod Room
+pub mod RestLaws
+pub mod OpeningLaws
+pub mod Unique
+pub mod Promises

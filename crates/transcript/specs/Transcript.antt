@@ -1,0 +1,63 @@
+-- The program `tagedit` as a function from its whole input to its whole output.
+-- Assumes nothing.
+use Prim.Native.Nat.{ℕ}
+use mathlib.Core.Bool.{Bool, true, false, cond}
+use mathlib.Core.List.{List, [], _∷_, _++_}
+use lib.ListN.{length}
+use lib.Dec.{leb}
+use Rattle.lent.specs.Outcome.{Outcome, refused, done, numberOf}
+use Rattle.samtags.specs.Reading.{readTag}
+use Rattle.samtags.specs.Spots.{Listing}
+use Rattle.samtags.specs.Session.{Held, stepped, afterStep}
+use Rattle.lines.specs.Lines.{linesOf, hasMark, bodyOf, valuesOf, stepOf, given, lineOf, answerLine, decimals}
+
+-- what is held at the end: SEQ, the MM text, and the ML if one was given
+unfoldable pub closing : Bool → Held → List ℕ
+unfolding decimals
+closing ml? s = lineOf "SQ" (s .seq) ++ lineOf "MM" (s .text) ++ cond ml? (lineOf "ML" (decimals (s .ml))) []
+
+-- A line for each step and its answer, and at the end what is held. A refused step changes nothing and the next one follows; a bad line is
+-- answered 13 and ends the output.
+unfoldable pub afterOpening : Bool → List (List ℕ) → Held → List ℕ
+unfolding stepOf stepped answerLine closing
+afterOpening ml? [] s = closing ml? s
+afterOpening ml? (l ∷ ls) s =
+    given (stepOf l) (answerLine 13) (λ t.
+    let o = stepped ml? t s in
+    answerLine (numberOf o) ++ afterOpening ml? ls (afterStep s o))
+
+-- the opening is answered as the reader does; where it is refused nothing follows
+unfoldable pub opened : Bool → List (List ℕ) → Held → Outcome (List Listing) → List ℕ
+unfolding afterOpening answerLine
+opened ml? ls s (refused r) = answerLine (r .0)
+opened ml? ls s (done listed) = answerLine 0 ++ afterOpening ml? ls s
+
+-- SEQ, MM and ML have come
+unfoldable pub openedOn : Bool → List ℕ → List ℕ → List ℕ → List (List ℕ) → List ℕ
+unfolding opened readTag
+openedOn ml? seq text ml ls = opened ml? ls (record { seq = seq; text = text; ml = ml }) (readTag ml? seq text ml)
+
+-- SEQ and MM have come: a third line that is marked ML is read before the opening is answered
+unfoldable pub fromThird : List ℕ → List ℕ → List (List ℕ) → List ℕ
+unfolding valuesOf answerLine openedOn
+fromThird seq text [] = openedOn false seq text [] []
+fromThird seq text (l ∷ ls) =
+    cond (hasMark "ML" l)
+    (given (valuesOf l) (answerLine 13) (λ ml. openedOn true seq text ml ls))
+    (openedOn false seq text [] (l ∷ ls))
+
+-- SEQ has come
+unfoldable pub fromSecond : List ℕ → List (List ℕ) → List ℕ
+unfolding answerLine fromThird
+fromSecond seq [] = answerLine 13
+fromSecond seq (l ∷ ls) = cond (hasMark "MM" l) (fromThird seq (bodyOf l) ls) (answerLine 13)
+
+unfoldable pub fromFirst : List (List ℕ) → List ℕ
+unfolding answerLine fromSecond
+fromFirst [] = answerLine 13
+fromFirst (l ∷ ls) = cond (hasMark "SQ" l) (fromSecond (bodyOf l) ls) (answerLine 13)
+
+-- the whole output
+unfoldable pub transcriptOf : List ℕ → List ℕ
+unfolding answerLine fromFirst
+transcriptOf input = cond (leb (length input) 65536) (fromFirst (linesOf input)) (answerLine 1)
