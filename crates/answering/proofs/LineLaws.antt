@@ -10,17 +10,15 @@ use mathlib.Core.Option.{Option, none, some}
 use lib.ListN.{length, take, length-drop, length-take}
 use lib.Seq.{sets}
 use Rattle.lent.proofs.Filled.{over-front, over-stored}
-use Rattle.lent.proofs.Outcome.{done-inj}
 use Rattle.lent.specs.Filled.{over}
 use Rattle.lent.specs.Lists.{among}
-use Rattle.lent.specs.Outcome.{Outcome, done, numberOf, refused}
-use Rattle.lent.specs.declared.Refusal.{Refusal}
 use Rattle.samtags.specs.Decimal.{value}
-use Rattle.samtags.specs.Session.{Lengths, Memory, Step, afterStep, dropCalls, mask, masked, stepInMemory}
+use Rattle.samtags.specs.Session.{Step, dropCalls, mask, masked, stepInMemory}
 use Rattle.changing.proofs.WindowLaws.{stored-is-masked, take-stored}
 use Rattle.changing.specs.Windows.{storedAt}
 use Rattle.lines.specs.Lines.{areNumbers, bodyOf, cutOf, given, hasMark, joined, numbersOf, stepOf}
-use Rattle.stepping.specs.Steps.{Came, came, leavesMemory, lengthsOf, memory, stepSays}
+use Rattle.stepping.proofs.StepLaws.{by-answer}
+use Rattle.stepping.specs.Steps.{came, leavesMemory, memory, stepSays}
 use Rattle.stepping.specs.declared.Lengths.{Lengths as Declared}
 use Rattle.stepping.specs.declared.Stepped.{Stepped}
 use Rattle.stepping.specs.declared.Stepped.the-variants as stepped
@@ -28,33 +26,15 @@ use Rattle.answering.specs.Answers.{LineAnswered, answerOf}
 
 -- ---- a step's answer
 
-refused-inj : {A : Type 0} {q r : Refusal} → _≡_ {A = Outcome A} (refused q) (refused r) → q ≡ r
-refused-inj {A} {q} {r} e = cc
-
 module _ (ml? : Bool) (s t v : List ℕ) (n : Declared) where
   -- a line that asks for a step, by what the step answered and how it left the rows
   pub step-answered : (o : Option Step) (p : Step) → o ≡ some p → (r : Stepped) (s′ t′ v′ : List ℕ)
       → came (stepSays r) s′ t′ v′ ≡ leavesMemory (memory s t v n) (stepInMemory ml? p (memory s t v n))
       → LineAnswered ml? o (memory s t v n) (answerOf r n) s′ t′ v′
-  unfolding leavesMemory
-  step-answered o p e r s′ t′ v′ c = go r (stepInMemory ml? p (memory s t v n)) refl c
-    where
-      go : (r : Stepped) (w : Outcome Memory) → stepInMemory ml? p (memory s t v n) ≡ w → came (stepSays r) s′ t′ v′ ≡ leavesMemory (memory s t v n) w
-          → LineAnswered ml? o (memory s t v n) (answerOf r n) s′ t′ v′
-      go (stepped.Done k) (refused q) w c =
-          let x : _≡_ {A = Outcome Lengths} (done (lengthsOf k)) (refused q) = ap (λ (x : Came). x .answer) c in
-          let z : _≡_ {A = ℕ} 0 1 = cc in absurd (omega arith)
-      go (stepped.Done k) (done m) w c =
-          let size : lengthsOf k ≡ m .lengths = done-inj (ap (λ (x : Came). x .answer) c) in
-          let rows : memory s′ t′ v′ k ≡ m = λ j. record { seq = c j .seq; text = c j .text; ml = c j .ml; lengths = size j } in
-          (p, e, ap numberOf (sym w), rows ∙ ap (afterStep (memory s t v n)) (sym w))
-      go (stepped.Refused r) (refused q) w c =
-          let same : r ≡ q = refused-inj (ap (λ (x : Came). x .answer) c) in
-          let rows : memory s′ t′ v′ n ≡ memory s t v n = λ j. record { seq = c j .seq; text = c j .text; ml = c j .ml; lengths = lengthsOf n } in
-          (p, e, ap (λ (x : Refusal). x .0) same ∙ ap numberOf (sym w), rows ∙ ap (afterStep (memory s t v n)) (sym w))
-      go (stepped.Refused r) (done m) w c =
-          let x : _≡_ {A = Outcome Lengths} (refused r) (done (m .lengths)) = ap (λ (x : Came). x .answer) c in
-          let z : _≡_ {A = ℕ} 0 1 = cc in absurd (omega arith)
+  step-answered o p e (stepped.Done k) s′ t′ v′ c =
+      let left = by-answer (memory s t v n) n refl (stepped.Done k) (stepInMemory ml? p (memory s t v n)) s′ t′ v′ c in (p, e, left .1, left .0)
+  step-answered o p e (stepped.Refused r) s′ t′ v′ c =
+      let left = by-answer (memory s t v n) n refl (stepped.Refused r) (stepInMemory ml? p (memory s t v n)) s′ t′ v′ c in (p, e, left .1, left .0)
 
 -- ---- the numbers of a line
 

@@ -8,17 +8,14 @@ use native.Mathlib.Numerals.{add-one}
 use native.Mathlib.Omega.{arith}
 use lib.ListN.{length, getD, drop, drop-of-length-le}
 use lib.Seq.{drop-cons}
+use Rattle.lent.proofs.Tests.{cond-at-most}
 use Rattle.cigar.specs.Cigar.{kindOf, lengthOf, takesBases, takesPlaces, basesTaken, placesTaken, total}
 
-at-most-all : (t : Bool) (n : ℕ) → cond t n 0 ≤ n
-at-most-all true n = omega arith
-at-most-all false n = omega arith
-
 pub bases-at-most : (word : ℕ) → basesTaken word ≤ word / 16
-bases-at-most word = at-most-all (takesBases (kindOf word)) (lengthOf word)
+bases-at-most word = cond-at-most (takesBases (kindOf word)) (lengthOf word)
 
 pub places-at-most : (word : ℕ) → placesTaken word ≤ word / 16
-places-at-most word = at-most-all (takesPlaces (kindOf word)) (lengthOf word)
+places-at-most word = cond-at-most (takesPlaces (kindOf word)) (lengthOf word)
 
 module _ (taken : ℕ → ℕ) where
   pub total-end : (l : List ℕ) (i : ℕ) → length l ≤ i → total taken (drop i l) ≡ 0

@@ -1,16 +1,17 @@
 -- Laws of what a lent output holds: its length, one element more, a part that was lent on and came back, what lies past the list; and that
 -- the answer and the list settle it.
 -- Assumes nothing.
-use mathlib.Core.Path.{_≡_, refl, sym, _∙_}
+use mathlib.Core.Path.{_≡_, refl, sym, ap, _∙_}
 use mathlib.Core.List.{List, [], _∷_, _++_, append-assoc, append-nil}
 use Prim.Native.Nat.{ℕ, zero, suc, _+_, _-_, _≤_, _<_}
 use native.Mathlib.Numerals.{add-one}
 use native.Mathlib.Omega.{arith}
-use lib.ListN.{length, getD, take, drop, set, length-append, length-drop, drop-of-length-le}
+use lib.ListN.{length, getD, take, drop, set, length-append, length-drop, drop-of-length-le, take-append-drop}
 use lib.Seq.{sets, sets-eq, take-at, drop-at, drop-drop, drop-cons, take-all, set-at, append-snoc, getD-append-add, getD-drop}
 use Rattle.lent.specs.Filled.{over, leaves}
 use Rattle.lent.specs.Outcome.{refused, done}
 use Rattle.lent.specs.declared.Refusal.{Refusal}
+use Rattle.lent.proofs.Lists.{drop-take}
 
 module _ {A : Type 0} where
   pub over-none : (out : List A) → out ≡ over [] out
@@ -20,6 +21,18 @@ module _ {A : Type 0} where
   pub length-over : (l out : List A) → length l ≤ length out → length (over l out) ≡ length out
   unfolding over
   length-over l out h = simp (length-append, length-drop) (omega arith)
+
+  -- a list over the first n of a row, put back
+  pub over-part-front : (l row : List A) (n : ℕ) → length l ≤ n → over l (take n row) ++ drop n row ≡ over l row
+  unfolding over
+  over-part-front l row n h =
+      let k = length l in
+      let rest : k + (n - k) ≡ n = omega arith in
+      append-assoc l (drop k (take n row)) (drop n row)
+      ∙ ap (λ (r : List A). l ++ r)
+      (ap (λ (r : List A). r ++ drop n row) (drop-take k n row)
+      ∙ ap (λ (r : List A). take (n - k) (drop k row) ++ r) (sym (drop-drop (n - k) k row ∙ ap (λ (i : ℕ). drop i row) rest))
+      ∙ take-append-drop (n - k) (drop k row))
 
   -- one element more, stored where the list ends
   pub over-one-more : (l out : List A) (i : ℕ) (b : A) → length l ≡ i → i < length out → set (over l out) i b ≡ over (l ++ (b ∷ [])) out

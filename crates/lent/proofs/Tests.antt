@@ -1,8 +1,9 @@
 -- Laws of Boolean tests.
 -- Assumes nothing.
 use mathlib.Core.Path.{_≡_, refl, sym}
-use Prim.Native.Nat.{ℕ}
-use mathlib.Core.Bool.{Bool, true, false, _&&_}
+use Prim.Native.Nat.{ℕ, _≤_}
+use native.Mathlib.Omega.{arith}
+use mathlib.Core.Bool.{Bool, true, false, cond, _&&_}
 use lib.Dec.{eqb}
 use borrow.Author.Tests.{eqb-true, eq-eqb}
 
@@ -10,6 +11,11 @@ use borrow.Author.Tests.{eqb-true, eq-eqb}
 pub by-test {ℓ} : {P : Type ℓ} (t : Bool) → (t ≡ true → P) → (t ≡ false → P) → P
 by-test true f g = f refl
 by-test false f g = g refl
+
+-- n or nothing, by a test
+pub cond-at-most : (t : Bool) (n : ℕ) → cond t n 0 ≤ n
+cond-at-most true n = omega arith
+cond-at-most false n = omega arith
 
 pub and-true : (s t : Bool) → s ≡ true → t ≡ true → s && t ≡ true
 and-true true t p q = q

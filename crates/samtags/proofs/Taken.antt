@@ -12,10 +12,6 @@ use borrow.Author.Tests.{leb-true}
 use Rattle.lent.proofs.Tests.{and-true-l, and-true-r}
 use Rattle.samtags.specs.Reading.{inDomain}
 
-pub taken-few : (ml? : Bool) (n : ℕ) → cond ml? n 0 ≤ n
-taken-few true n = omega arith
-taken-few false n = omega arith
-
 pub taken-is : (ml? : Bool) (ml : List ℕ) (n : ℕ) → n ≡ cond ml? (length ml) 0 → take n ml ≡ cond ml? ml []
 taken-is true ml n e = rw e (take-all (length ml) ml (omega arith))
 taken-is false ml n e = rw e

@@ -6,21 +6,19 @@ use Prim.Native.Nat.{ℕ, _<_}
 use native.Mathlib.Omega.{arith}
 use mathlib.Core.Bool.{Bool}
 use mathlib.Core.List.{List, [], _∷_, map}
-use Rattle.lent.proofs.Outcome.{done-inj, need-rest, on-done-inv}
-use Rattle.lent.specs.Outcome.{Outcome, done, numberOf, onDone, refused}
+use Rattle.lent.proofs.Outcome.{need-rest, on-done-inv}
+use Rattle.lent.specs.Outcome.{done, numberOf, onDone}
 use Rattle.reading.specs.Calls.{countsOf}
 use Rattle.samtags.proofs.Memory.{session-in-memory}
 use Rattle.samtags.proofs.Memory as memory
 use Rattle.samtags.specs.Meaning.{afterSteps, answersTo, isRefusal, leftOfListing, leftOfSeq, opening, refusedSteps}
 use Rattle.samtags.specs.Reading.{lists}
-use Rattle.samtags.specs.Session.{Lengths as Held-lengths, Memory, Step, afterStep, answersInMemory, heldIn, lengthsInBuffers, lengthsInDomain}
+use Rattle.samtags.specs.Session.{Memory, Step, afterStep, answersInMemory, heldIn, lengthsInBuffers, lengthsInDomain}
 use Rattle.samtags.specs.Session.{openSession, runInMemory, stepInMemory}
 use Rattle.samtags.specs.Spots.{Listing}
-use Rattle.stepping.specs.Steps.{Came, came, leavesMemory, lengthsOf, memory as inRows, stepSays}
-use Rattle.stepping.specs.declared.Lengths.{Lengths}
-use Rattle.stepping.specs.declared.Stepped.{Stepped}
-use Rattle.stepping.specs.declared.Stepped.the-variants as stepped
-use Rattle.session.specs.Chain.{Call, Chain, Meets, Opened, Rows, atEnd, inMemory, leftBy, lengthsAfter, mlIn, numbersOf, seqIn, stepsOf, textIn}
+use Rattle.stepping.proofs.StepLaws.{by-answer}
+use Rattle.stepping.specs.Steps.{lengthsOf, stepSays}
+use Rattle.session.specs.Chain.{Call, Chain, Meets, Opened, Rows, atEnd, inMemory, leftBy, mlIn, numbersOf, seqIn, stepsOf, textIn}
 
 -- ---- call by call
 
@@ -32,22 +30,6 @@ same-rows w u e = λ j. record {
   ml = e j .ml;
   lengths = record { seq = e j .lengths .seq; mm = e j .lengths .text; ml = e j .lengths .ml };
 }
-
--- the rows m that a step was given and what it came to, by its answer
-by-answer : (m : Memory) (old : Lengths) → m .lengths ≡ lengthsOf old → (r : Stepped) (o : Outcome Memory) (s t v : List ℕ)
-    → came (stepSays r) s t v ≡ leavesMemory m o → (inRows s t v (lengthsAfter r old) ≡ afterStep m o) × (numberOf (stepSays r) ≡ numberOf o)
-unfolding leavesMemory
-by-answer m old l (stepped.Done n) (done k) s t v e =
-    let is : lengthsOf n ≡ k .lengths = done-inj (ap (λ (x : Came). x .answer) e) in
-    (λ j. record { seq = e j .seq; text = e j .text; ml = e j .ml; lengths = is j }, refl)
-by-answer m old l (stepped.Done n) (refused q) s t v e =
-    let x : _≡_ {A = Outcome Held-lengths} (done (lengthsOf n)) (refused q) = ap (λ (x : Came). x .answer) e in
-    let z : _≡_ {A = ℕ} 0 1 = cc in absurd (omega arith)
-by-answer m old l (stepped.Refused r) (done k) s t v e =
-    let x : _≡_ {A = Outcome Held-lengths} (refused r) (done (k .lengths)) = ap (λ (x : Came). x .answer) e in
-    let z : _≡_ {A = ℕ} 0 1 = cc in absurd (omega arith)
-by-answer m old l (stepped.Refused r) (refused q) s t v e =
-    (λ j. record { seq = e j .seq; text = e j .text; ml = e j .ml; lengths = sym l j }, ap (λ (x : Came). numberOf (x .answer)) e)
 
 -- a call does to memory what its step does
 follows : (ml? : Bool) (w : Rows) (c : Call) → Meets ml? w c

@@ -11,10 +11,9 @@ use Rattle.reading.specs.Answers.{readingSays}
 use Rattle.reading.specs.Calls.{countsOf}
 use Rattle.reading.specs.declared.Reading.the-variants as reading
 use Rattle.samtags.specs.Session.{Memory, Step, openSession, stepInMemory}
-use Rattle.stepping.specs.Steps.{came, leavesMemory, memory, stepSays}
+use Rattle.stepping.specs.Steps.{came, leavesMemory, lengthsAfter, memory, stepSays}
 use Rattle.stepping.specs.declared.Lengths.{Lengths}
 use Rattle.stepping.specs.declared.Stepped.{Stepped}
-use Rattle.stepping.specs.declared.Stepped.the-variants as stepped
 
 -- the lent rows and the session's lengths, as a call finds them
 pub record Rows : Type 0 where
@@ -52,11 +51,6 @@ pub record Call : Type 0 where
 abbrev pub Meets : Bool → Rows → Call → Type 0
 Meets ml? w c =
     came (stepSays (c .answered)) (c .seq) (c .mm) (c .ml) ≡ leavesMemory (inMemory w) (stepInMemory ml? (c .asked) (inMemory w))
-
--- the lengths that the next call is given: the new ones, or after a refusal the old ones
-abbrev pub lengthsAfter : Stepped → Lengths → Lengths
-lengthsAfter (stepped.Done n) old = n
-lengthsAfter (stepped.Refused r) old = old
 
 -- what the next call finds
 abbrev pub leftBy : Rows → Call → Rows

@@ -8,38 +8,28 @@ use mathlib.Core.List.{List, [], _++_, append-assoc}
 use lib.ListN.{length, length-drop, length-take, take, drop, take-append-drop}
 use lib.Seq.{drop-drop, length-take-le, take-take}
 use borrow.Author.Tests.{eq-eqb, le-leb, lt-leb, ne-eqb}
-use Rattle.lent.proofs.Filled.{over-none}
+use Rattle.lent.proofs.Filled.{over-none, over-part-front}
 use Rattle.lent.proofs.Lists.{drop-take}
 use Rattle.lent.proofs.Outcome.{done-inj}
 use Rattle.lent.specs.Filled.{leaves, over}
 use Rattle.lent.specs.Lists.{among}
-use Rattle.lent.specs.Outcome.{Outcome, done, refuse, refused}
+use Rattle.lent.specs.Outcome.{Outcome, done, numberOf, refuse, refused}
 use Rattle.lent.specs.declared.Refusal.{Refusal}
 use Rattle.samtags.proofs.Length.{never-longer}
 use Rattle.samtags.specs.Edits.{Edit, cutTo, edited, maskedTo}
-use Rattle.samtags.specs.Session.{Memory, Step, cut, dropCalls, heldIn, mask, masked, stepInMemory, stepped, window}
+use Rattle.samtags.specs.Session.{Lengths, Memory, Step, afterStep, cut, dropCalls, heldIn, mask, masked, stepInMemory, stepped as steppedTo, window}
 use Rattle.samtags.specs.Writing.{Tag}
 use Rattle.changing.proofs.WindowLaws.{drop-by-marks}
 use Rattle.changing.specs.Windows.{isMarked, windowEdit}
 use Rattle.editing.proofs.TagLaws.{edited-taken}
 use Rattle.editing.specs.Rewrote.{Rewrote, leavesTag, rewrote, sizesWith, valuesWith}
 use Rattle.stepping.proofs.OrderLaws.{order-refused, ordered-is, tests}
-use Rattle.stepping.specs.Steps.{Ordered, came, leavesMemory, lengthsOf, storedWith}
+use Rattle.stepping.specs.Steps.{Came, Ordered, came, leavesMemory, lengthsAfter, lengthsOf, memory, stepSays, storedWith}
 use Rattle.stepping.specs.declared.Lengths.{Lengths as Declared}
+use Rattle.stepping.specs.declared.Stepped.{Stepped}
+use Rattle.stepping.specs.declared.Stepped.the-variants as stepped
 
 -- ---- the front of a row
-
--- a list over the first n of a row, put back
-pub over-part-front : (l row : List ℕ) (n : ℕ) → length l ≤ n → over l (take n row) ++ drop n row ≡ over l row
-unfolding over
-over-part-front l row n h =
-    let k = length l in
-    let rest : k + (n - k) ≡ n = omega arith in
-    append-assoc l (drop k (take n row)) (drop n row)
-    ∙ ap (λ (r : List ℕ). l ++ r)
-    (ap (λ (r : List ℕ). r ++ drop n row) (drop-take k n row)
-    ∙ ap (λ (r : List ℕ). take (n - k) (drop k row) ++ r) (sym (drop-drop (n - k) k row ∙ ap (λ (i : ℕ). drop i row) rest))
-    ∙ take-append-drop (n - k) (drop k row))
 
 module _ (ml? : Bool) (row vals : List ℕ) (n k : ℕ) (x : Outcome (ℕ × ℕ)) (t v : List ℕ) where
   -- a tag that was edited in the first n bytes of its row and the first k values of its own, which came back
@@ -142,31 +132,31 @@ module _ (ml? : Bool) (m : Memory) (after : List ℕ) where
 module _ (ml? : Bool) (m : Memory) (i : Ordered ml? m) where
   pub mask-is-step : (places after : List ℕ) → after ≡ masked (among places) (heldIn m .seq)
       → storedWith ml? m after (edited (maskedTo after) ml? (heldIn m .seq) (heldIn m .text) (heldIn m .ml)) ≡ stepInMemory ml? (mask places) m
-  unfolding stepInMemory stepped
+  unfolding stepInMemory steppedTo
   mask-is-step places after e = rw e (sym (ordered-is ml? m i _))
 
   pub drop-is-step : (places marks : List ℕ) → ((p : ℕ) → p < length (heldIn m .seq) → isMarked marks p ≡ among places p)
       → storedWith ml? m (heldIn m .seq) (edited (windowEdit 0 (heldIn m .seq) marks) ml? (heldIn m .seq) (heldIn m .text) (heldIn m .ml))
       ≡ stepInMemory ml? (dropCalls places) m
-  unfolding stepInMemory stepped
+  unfolding stepInMemory steppedTo
   drop-is-step places marks e =
       rw (← drop-by-marks ml? (heldIn m .seq) (heldIn m .text) (heldIn m .ml) places marks e) (sym (ordered-is ml? m i _))
 
   module _ (front back : ℕ) where
     pub cut-nothing : front + back ≡ 0 → stepInMemory ml? (cut front back) m ≡ refuse 21
-    unfolding stepInMemory stepped
+    unfolding stepInMemory steppedTo
     cut-nothing z = ordered-is ml? m i _ ∙ rw (eq-eqb (front + back) 0 z)
 
     module _ (some : front + back ≡ 0 → ⊥) where
       pub cut-too-much : length (heldIn m .seq) < front + back → stepInMemory ml? (cut front back) m ≡ refuse 11
-      unfolding stepInMemory stepped
+      unfolding stepInMemory steppedTo
       cut-too-much l = ordered-is ml? m i _ ∙ rw (ne-eqb (front + back) 0 some, lt-leb (front + back) (length (heldIn m .seq)) l)
 
       pub cut-is-step : (n : ℕ) → front + back ≤ length (heldIn m .seq) → n ≡ length (heldIn m .seq) - (front + back)
           → storedWith ml? m (window front n (heldIn m .seq))
           (edited (cutTo front (window front n (heldIn m .seq))) ml? (heldIn m .seq) (heldIn m .text) (heldIn m .ml))
           ≡ stepInMemory ml? (cut front back) m
-      unfolding stepInMemory stepped
+      unfolding stepInMemory steppedTo
       cut-is-step n l e =
           sym (ordered-is ml? m i _ ∙ rw (ne-eqb (front + back) 0 some, le-leb (front + back) (length (heldIn m .seq)) l, ← e))
 
@@ -174,3 +164,21 @@ module _ (ml? : Bool) (m : Memory) (i : Ordered ml? m) where
 pub refused-by-order : (ml? : Bool) (m : Memory) (t : Step) (r : Refusal) → tests ml? m ≡ refused r → stepInMemory ml? t m ≡ refused r
 unfolding stepInMemory
 refused-by-order ml? m t r e = order-refused ml? m _ r e
+
+-- ---- from the answer to what was done
+
+-- A step's answer tells what the step came to: the rows and lengths that the next one finds, and the number.
+pub by-answer : (m : Memory) (old : Declared) → m .lengths ≡ lengthsOf old → (r : Stepped) (o : Outcome Memory) (s t v : List ℕ)
+    → came (stepSays r) s t v ≡ leavesMemory m o → (memory s t v (lengthsAfter r old) ≡ afterStep m o) × (numberOf (stepSays r) ≡ numberOf o)
+unfolding leavesMemory
+by-answer m old l (stepped.Done n) (done k) s t v e =
+    let is : lengthsOf n ≡ k .lengths = done-inj (ap (λ (x : Came). x .answer) e) in
+    (λ j. record { seq = e j .seq; text = e j .text; ml = e j .ml; lengths = is j }, refl)
+by-answer m old l (stepped.Done n) (refused q) s t v e =
+    let x : _≡_ {A = Outcome Lengths} (done (lengthsOf n)) (refused q) = ap (λ (x : Came). x .answer) e in
+    let z : _≡_ {A = ℕ} 0 1 = cc in absurd (omega arith)
+by-answer m old l (stepped.Refused r) (done k) s t v e =
+    let x : _≡_ {A = Outcome Lengths} (refused r) (done (k .lengths)) = ap (λ (x : Came). x .answer) e in
+    let z : _≡_ {A = ℕ} 0 1 = cc in absurd (omega arith)
+by-answer m old l (stepped.Refused r) (refused q) s t v e =
+    (λ j. record { seq = e j .seq; text = e j .text; ml = e j .ml; lengths = sym l j }, ap (λ (x : Came). numberOf (x .answer)) e)

@@ -25,6 +25,11 @@ abbrev pub stepSays : Stepped → Outcome Lengths
 stepSays (stepped.Done n) = done (lengthsOf n)
 stepSays (stepped.Refused r) = refused r
 
+-- the lengths that the next step is given: the new ones, or after a refusal the old ones
+abbrev pub lengthsAfter : Stepped → Declared → Declared
+lengthsAfter (stepped.Done n) old = n
+lengthsAfter (stepped.Refused r) old = old
+
 -- ---- the rows
 
 -- three lent rows, and how much of each the session holds

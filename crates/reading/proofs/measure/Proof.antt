@@ -13,7 +13,8 @@ use Rattle.samtags.specs.Reading.{nowhere, readGroups}
 use Rattle.samtags.specs.Spots.{Group}
 use Rattle.samtags.specs.Text.{closedBy}
 use Rattle.reading.proofs.AnswerLaws.{measured}
-use Rattle.samtags.proofs.Taken.{taken-few, taken-is}
+use Rattle.lent.proofs.Tests.{cond-at-most}
+use Rattle.samtags.proofs.Taken.{taken-is}
 use Rattle.reading.proofs.CheckLaws.{four, one-ml, one-seq, one-text, read-on, tested, three}
 use Rattle.reading.proofs.measure.Statement.{statement}
 use Rattle.reading.specs.Measured.{TagMeasured}
@@ -71,7 +72,7 @@ part-scan-groups-end : tie.Need-part-scan-groups-end
 part-scan-groups-end c = omega (
   arith,
   c .before .before .before .before .before .before .before .values-taken .ensures,
-  taken-few
+  cond-at-most
       (c .before .before .before .before .before .before .before .before .before .before .before .args .has-ml)
       (length (c .before .before .before .before .before .before .before .before .before .before .before .args .ml .now)),
 )

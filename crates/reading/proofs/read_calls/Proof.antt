@@ -13,7 +13,8 @@ use Rattle.samtags.specs.Reading.{callList, nowhere, readGroups, readTag}
 use Rattle.samtags.specs.Spots.{Group, listing}
 use Rattle.samtags.specs.Text.{closedBy}
 use Rattle.reading.proofs.AnswerLaws.{calls-done, calls-refused, scanned-rows, short-groups, short-places, short-starts, tag-known, tag-refused}
-use Rattle.samtags.proofs.Taken.{taken-few, taken-is}
+use Rattle.lent.proofs.Tests.{cond-at-most}
+use Rattle.samtags.proofs.Taken.{taken-is}
 use Rattle.reading.proofs.CheckLaws.{passed, tested}
 use Rattle.reading.proofs.read_calls.Statement.{statement}
 use Rattle.reading.specs.Calls.{callsRead, countsOf}
@@ -103,7 +104,7 @@ part-scan-groups-end : tie.Need-part-scan-groups-end
 part-scan-groups-end c = omega (
   arith,
   c .values-taken .ensures,
-  taken-few
+  cond-at-most
       (c .before .before .before .before .before .before .before .before .before .before .before .before .before .before .args .has-ml)
       (length (c .before .before .before .before .before .before .before .before .before .before .before .before .before .before .args .ml .now)),
 )

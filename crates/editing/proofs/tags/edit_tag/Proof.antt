@@ -17,7 +17,8 @@ use Rattle.editing.specs.declared.walk.Edited.{Edited}
 use Rattle.lent.proofs.Outcome.{on-done-inv}
 use Rattle.lent.specs.Outcome.{Outcome, done, refused}
 use Rattle.lent.specs.declared.Refusal.{Refusal}
-use Rattle.samtags.proofs.Taken.{taken-again, taken-few, taken-is}
+use Rattle.lent.proofs.Tests.{cond-at-most}
+use Rattle.samtags.proofs.Taken.{taken-again, taken-is}
 use Rattle.samtags.specs.Edits.{edited}
 use Rattle.samtags.specs.Reading.{readGroups}
 use Rattle.samtags.specs.Text.{closedBy}
@@ -86,7 +87,7 @@ part-measure-end : tie.Need-part-measure-end
 part-measure-end c = omega (
   arith,
   c .values-taken .ensures,
-  taken-few
+  cond-at-most
       (c .before .before .before .before .before .before .before .before .args .has-ml) (length
       (c .before .before .before .before .before .before .before .before .args .ml .now)),
 )
@@ -153,7 +154,7 @@ part-edit-groups-end : tie.Need-part-edit-groups-end
 part-edit-groups-end c = omega (
   arith,
   c .before .before .before .before .before .before .before .values-taken .ensures,
-  taken-few
+  cond-at-most
       (c .before .before .before .before .before .before .before .before .before .before .before .before .before .before .before .args .has-ml) (length
       (c .before .before .before .before .before .before .before .before .before .before .before .before .before .before .before .args .ml .now)),
 )

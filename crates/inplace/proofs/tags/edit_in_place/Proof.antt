@@ -19,7 +19,8 @@ use Rattle.lent.proofs.Outcome.{on-done-inv}
 use Rattle.lent.specs.Outcome.{Outcome, done, refused}
 use Rattle.lent.specs.declared.Refusal.{Refusal}
 use Rattle.samtags.proofs.Length.{never-longer}
-use Rattle.samtags.proofs.Taken.{taken-again, taken-few, taken-is}
+use Rattle.lent.proofs.Tests.{cond-at-most}
+use Rattle.samtags.proofs.Taken.{taken-again, taken-is}
 use Rattle.samtags.specs.Edits.{edited}
 use Rattle.samtags.specs.Reading.{readGroups}
 use Rattle.samtags.specs.Text.{closedBy}
@@ -45,7 +46,7 @@ taken-inside : (v : tie.After-values-taken) → v .values-taken .result ≤ leng
 taken-inside v = omega (
   arith,
   v .values-taken .ensures,
-  taken-few (v .before .before .before .before .before .before .args .has-ml) (length
+  cond-at-most (v .before .before .before .before .before .before .args .has-ml) (length
       (v .before .before .before .before .before .before .args .ml .now)),
 )
 
