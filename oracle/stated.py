@@ -243,6 +243,10 @@ state("SAMtags: three groups", p.calls(b"C+m,2,2,1,4,1;C+76792,6,7;N+n,15;", byt
       p.done(3, "1:6:0:1,1:17:1:1,1:20:2:1,1:31:3:1,1:34:4:1,2:19:5:1,2:34:6:1,3:15:7:1"))
 state("SAMtags: two codes at once", p.calls(b"C+mh,5,0;", bytes(4), SAMTAGS_SEQ), p.done(1, "1:17:0:2,1:19:2:2"))
 state("SAMtags: an empty MM", p.calls(b"", None, SAMTAGS_SEQ), 4)
+# The text's own examples name no SEQ: the 6th, 19th and 20th C; the 15th G; two codes at the 6th and the 19th C. Proved too (samtags-examples).
+state("SAMtags: C+m,5,12,0", p.calls(b"C+m,5,12,0;", bytes([1, 2, 3]), b"C" * 20), p.done(1, "1:5:0:1,1:18:1:1,1:19:2:1"))
+state("SAMtags: G-m,14", p.calls(b"G-m,14;", bytes([1]), b"G" * 20), p.done(1, "1:14:0:1"))
+state("SAMtags: C+mh,5,12", p.calls(b"C+mh,5,12;", bytes([1, 2, 3, 4]), b"C" * 20), p.done(1, "1:5:0:2,1:18:2:2"))
 
 # ---- The smallest inputs of docs/DIFFERENCES.md that don't stand above ----------------------------
 

@@ -14,12 +14,6 @@ use Rattle.alignment.specs.Reference.{isCpg, fetchedBases}
 abbrev clipped : List ℕ
 clipped = 36 ∷ 48 ∷ 18 ∷ 32 ∷ []
 
--- example (k) of the scope: from 100 on, and a reverse read's places reversed
-pub clipped-from-100 :
-    (queryPlaces clipped (pos 100) false 7 ≡ done (missing ∷ missing ∷ pos 100 ∷ pos 101 ∷ pos 102 ∷ pos 104 ∷ pos 105 ∷ []))
-    × (queryPlaces clipped (pos 100) true 7 ≡ done (pos 105 ∷ pos 104 ∷ pos 102 ∷ pos 101 ∷ pos 100 ∷ missing ∷ missing ∷ []))
-clipped-from-100 = (refl, refl)
-
 -- one place less than the read has bases is 12; a row that is longer is not
 pub room : (queryPlaces clipped (pos 100) false 6 ≡ refuse 12) × (queryPlaces (16 ∷ []) (pos 5) true 9 ≡ done (pos 5 ∷ []))
 room = (refl, refl)

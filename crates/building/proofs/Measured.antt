@@ -12,7 +12,6 @@ use Rattle.lent.specs.declared.Refusal.{Refusal}
 use Rattle.pattern.specs.Patterns.{isEnabled}
 use Rattle.pattern.specs.declared.ConversionPattern.{ConversionPattern}
 use Rattle.pattern.specs.declared.MethylationMode.{MethylationMode}
-use Rattle.samtags.proofs.Examples.{tag}
 use Rattle.samtags.proofs.OwnTag.{own-called}
 use Rattle.samtags.specs.Building.{Evidence, buildTag, builtTag, evidenceAgrees, evidenceInDomain, hasCalls, ownTag, strandGroup}
 use Rattle.samtags.specs.Edits.{inRoom}

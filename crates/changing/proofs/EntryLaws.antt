@@ -5,13 +5,13 @@ use Prim.Native.Nat.{ℕ, suc, _+_, _-_, _≤_, _<_, min}
 use native.Mathlib.Nat.{add-zero}
 use native.Mathlib.Omega.{arith}
 use mathlib.Core.Bool.{Bool, true, false, cond, not}
-use mathlib.Core.List.{List, [], _∷_}
+use mathlib.Core.List.{List, [], _∷_, _++_}
 use mathlib.Core.Option.{none}
 use lib.Dec.{leb}
-use lib.ListN.{length, getD, take, drop, length-drop, length-take}
+use lib.ListN.{length, getD, take, drop, length-append, length-drop, length-take}
 use lib.Seq.{take-all}
 use borrow.Author.Tests.{le-leb, le-ltb, leb-false, leb-true, lt-leb, lt-ltb, not-true}
-use Rattle.lent.proofs.Lists.{filter-length}
+use Rattle.lent.proofs.Lists.{filter-append, filter-length}
 use Rattle.lent.proofs.Outcome.{done-inj, need-rest, need-test, on-done-inv, on-done-refused, with-first-inv}
 use Rattle.lent.proofs.Tests.{by-test}
 use Rattle.lent.specs.Lists.{filter}
@@ -20,8 +20,10 @@ use Rattle.lent.specs.declared.Refusal.{Refusal}
 use Rattle.samtags.specs.Decimal.{isNumber, value}
 use Rattle.samtags.specs.Reading.{readEntry}
 use Rattle.samtags.specs.Spots.{holds}
+use Rattle.strides.proofs.StrideLaws.{between-rest}
+use Rattle.strides.specs.Counts.{between, heldBetween}
 use Rattle.tagtext.proofs.TextLaws.{entry-eight, entry-refused, entry-ten, entry-went}
-use Rattle.tagtext.proofs.WalkLaws.{entry-on, entry-seven, entry-six, found-at, found-end, found-miss, tracked-few}
+use Rattle.tagtext.proofs.WalkLaws.{behind-passed, entry-on, entry-seven, entry-six, found-at, found-end, found-miss, tracked-few}
 use Rattle.tagtext.specs.Walk.{entryAt, firstOf, trackedFrom}
 use Rattle.changing.specs.Drafts.{passing, withPassed}
 use Rattle.changing.specs.Windows.{deniedIn, heldIn, isMarked}
@@ -49,6 +51,10 @@ module _ (marks : List ℕ) (may-drop : Bool) (p : ℕ) where
   denied-closed e = rw e (by-test (isMarked marks p) (λ t. rw t) (λ t. rw t))
 
 -- ---- the bases that an entry passes
+
+take-append-add : (xs ys : List ℕ) (n : ℕ) → take (length xs + n) (xs ++ ys) ≡ xs ++ take n ys
+take-append-add [] ys n = let z : 0 + n ≡ n = omega arith in rw z
+take-append-add (x ∷ xs) ys n = let z : suc (length xs) + n ≡ suc (length xs + n) = omega arith in rw z (ap (λ (r : List ℕ). x ∷ r) (take-append-add xs ys n))
 
 pub one-at-most : (t : Bool) → cond t 1 0 ≤ 1
 one-at-most true = omega arith
@@ -80,6 +86,33 @@ module _ (held : ℕ → Bool) (b : ℕ) (s : List ℕ) (i m n : ℕ) where
 
     pub passing-miss : holds b (getD s i 0) ≡ false → passing held m n (trackedFrom b i s) ≡ passing held m n (trackedFrom b (i + 1) s)
     passing-miss h = ap (λ (ps : List ℕ). passing held m n ps) (found-miss b s i 0 l h)
+
+-- behind a part of SEQ that was passed as a whole
+module _ (lo : ℕ) (after : List ℕ) (b : ℕ) (s : List ℕ) (from place n passed m : ℕ) (l : from ≤ place) (u : place ≤ length s) (few : passed ≤ n)
+    (e : passed ≡ length (between b s from place)) (held : m ≡ heldBetween lo after b s from place) where
+  parts : take n (trackedFrom b from s) ≡ between b s from place ++ take (n - passed) (trackedFrom b place s)
+  unfolding trackedFrom
+  parts =
+      let sum : n ≡ length (between b s from place) + (n - passed) = omega arith in
+      ap (take n) (between-rest b s from place l u) ∙ ap (λ (k : ℕ). take k (between b s from place ++ trackedFrom b place s)) sum
+      ∙ take-append-add (between b s from place) (trackedFrom b place s) (n - passed)
+
+  counted : 0 + length (filter (heldIn lo after b) (take n (trackedFrom b from s))) ≡ m + length (filter (heldIn lo after b) (take (n - passed) (trackedFrom b place s)))
+  unfolding heldIn
+  counted =
+      omega (
+        arith,
+        held,
+        ap (λ (ps : List ℕ). length (filter (heldIn lo after b) ps)) parts,
+        ap length (filter-append (heldIn lo after b) (between b s from place) (take (n - passed) (trackedFrom b place s))),
+        length-append (filter (heldIn lo after b) (between b s from place)) (filter (heldIn lo after b) (take (n - passed) (trackedFrom b place s))),
+      )
+
+  pub passing-behind : passing (heldIn lo after b) 0 n (trackedFrom b from s) ≡ passing (heldIn lo after b) m (n - passed) (trackedFrom b place s)
+  passing-behind =
+      ap (λ (ps : List ℕ). withFirst {B = ℕ × ℕ} ps 7 (λ p rest. done (p, 0 + length (filter (heldIn lo after b) (take n (trackedFrom b from s))))))
+      (behind-passed b s from place n passed l u few e)
+      ∙ ap (λ (k : ℕ). withFirst {B = ℕ × ℕ} (drop (n - passed) (trackedFrom b place s)) 7 (λ p rest. done (p, k))) counted
 
 -- ---- an entry, by what the skip reader and the walk answer
 

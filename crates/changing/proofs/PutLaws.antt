@@ -1,16 +1,21 @@
 -- A call as it is put: what its stores leave, and that what is written stays behind what is read.
 -- Assumes nothing.
 use mathlib.Core.Path.{_≡_, sym, subst}
-use Prim.Native.Nat.{ℕ, suc, _+_, _≤_}
+use Prim.Native.Nat.{ℕ, suc, _+_, _≤_, min}
 use native.Mathlib.Omega.{arith}
 use mathlib.Core.Bool.{Bool, true, false}
 use mathlib.Core.List.{List}
+use mathlib.Core.Logic.{_⊎_, inl, inr, ⊎-elim}
 use lib.ListN.{length}
 use lib.Seq.{sets}
+use Rattle.lent.proofs.Numbers.{le-or-lt}
 use Rattle.samtags.proofs.Behind.{Behind, behind-bare, behind-gone, behind-listed}
 use Rattle.samtags.specs.Decimal.{digits, isNumber, value}
 use Rattle.samtags.specs.Writing.{entryText}
 use Rattle.changing.specs.Drafts.{Draft, draft, entryPut, more}
+
+pub less-of : (a b m : ℕ) → m ≡ min a b → (m ≡ a) ⊎ (m ≡ b)
+less-of a b m e = ⊎-elim (λ h. inl (omega arith)) (λ h. inr (omega arith)) (le-or-lt a b)
 
 -- An entry was read, f with the comma that leads it, of whose m passed bases that are still held are counted; and it was put.
 module _ (x y at : ℕ) (f : List ℕ) (number : isNumber f ≡ true) (m : ℕ) (few : m ≤ value f) (w : Draft) (gap : ℕ) (vs : List ℕ)

@@ -8,11 +8,12 @@ use lib.ListN.{length, getD, set}
 use lib.Dec.{leb, ltb, eqb}
 use Rattle.samtags.specs.Spots.{holds}
 use Rattle.samtags.specs.Edits.{Edit}
+use Rattle.strides.specs.Counts.{heldThere}
 
 -- the place p still holds the base b
 unfoldable pub heldIn : ℕ → List ℕ → ℕ → ℕ → Bool
 unfolding holds
-heldIn lo after b p = leb lo p && ltb p (lo + length after) && holds b (getD after (p - lo) 0)
+heldIn lo after b p = heldThere lo after b p
 
 -- the mark at p is not 0; past the row's end there is none
 unfoldable pub isMarked : List ℕ → ℕ → Bool
@@ -25,9 +26,9 @@ deniedIn marks mayDrop p = isMarked marks p && not mayDrop
 abbrev pub windowEdit : ℕ → List ℕ → List ℕ → Edit
 windowEdit lo after marks = record { stillHeld = heldIn lo after; dropped = isMarked marks }
 
--- a row as long as SEQ may be, with no mark
-abbrev pub Unmarked : List ℕ → Type 0
-Unmarked marks = (16000 ≡ length marks) × ((p : ℕ) → isMarked marks p ≡ false)
+-- a row of so many bytes, with no mark
+abbrev pub Unmarked : ℕ → List ℕ → Type 0
+Unmarked n marks = (n ≡ length marks) × ((p : ℕ) → isMarked marks p ≡ false)
 
 -- a row with the byte b at each place of a list, as far as the row reaches
 abbrev pub storedAt : ℕ → List ℕ → List ℕ → List ℕ

@@ -1,8 +1,8 @@
 // The one kind of edit: SEQ became `after`, which begins at place `lo` of what it was, and the calls at the marked places are dropped.
 ghost use mathlib.Core.Path.{_≡_};
 ghost use Rattle.changing.specs.Windows.{heldIn, isMarked, deniedIn, Unmarked, storedAt};
+use strides::counts;
 use tagtext::places::Place;
-use tagtext::places::counts;
 
 // The base at a place is still of its kind.
 pub fn still_held(base: u8, after: &[u8], lo: usize, place: Place) -> bool
@@ -42,9 +42,16 @@ pub fn is_denied(marks: &[u8], may_drop: bool, place: Place) -> bool
 
 // A row as long as SEQ may be, with no mark.
 pub fn no_marks() -> [u8; 16000]
-    ensures { λ r. ⌜ Unmarked r ⌝ }
+    ensures { λ r. ⌜ Unmarked 16000 r ⌝ }
 {
     [0; 16000]
+}
+
+// A row with no mark for a SEQ of at most 1,024 bases, since clearing the longer one is much of such a call's work.
+pub fn few_marks() -> [u8; 1024]
+    ensures { λ r. ⌜ Unmarked 1024 r ⌝ }
+{
+    [0; 1024]
 }
 
 // Puts a byte at the places of a list, of any length and order; those past the row's end do nothing.

@@ -1,23 +1,24 @@
 // The entries of a group: one is read against SEQ, and put into the rows as the edit leaves it.
 ghost use mathlib.Core.Path.{_≡_};
 ghost use mathlib.Core.Bool.{cond};
-ghost use Prim.Native.Nat.{_+_, _≤_};
+ghost use Prim.Native.Nat.{_+_, _-_, _≤_, min};
 ghost use lib.ListN.{length};
 ghost use lib.Seq.{sets};
 ghost use Rattle.samtags.specs.Decimal.{value};
 ghost use Rattle.samtags.specs.Reading.{readEntry};
 ghost use Rattle.samtags.specs.Writing.{entryText};
+ghost use Rattle.strides.specs.Counts.{between, heldBetween};
 ghost use Rattle.tagtext.specs.Walk.{trackedFrom};
 ghost use Rattle.changing.specs.Answers.{reachedSays, reachedRefusal};
 ghost use Rattle.changing.specs.Drafts.{passing, withPassed, draft, entryPut};
 ghost use Rattle.changing.specs.Windows.{heldIn, isMarked, deniedIn};
 use crate::changes;
 use lent::Refusal;
+use strides::Stride;
 use tagtext::numbers;
 use tagtext::numbers::Skip;
 use tagtext::places::Ordinal;
 use tagtext::places::Place;
-use tagtext::places::counts;
 
 // Where an entry's base stands and how many of the bases that it passes are still of the group's kind, or why there is none.
 pub enum Reached {
@@ -47,6 +48,23 @@ fn one_more(n: Ordinal, yes: bool) -> Ordinal
     n
 }
 
+// Where a walk may begin: behind whole blocks, if there are more than a few bases to pass. Where every base counts, none is looked at.
+fn ahead(seq: &[u8], after: &[u8], lo: usize, base: u8, from: usize, skip: usize) -> Stride
+    requires { ⌜ (from ≤ length (now seq)) × (length (now seq) ≤ 16000) ⌝ }
+    ensures { λ r. ⌜ (from ≤ r .place) × (r .place ≤ length (now (seq .entry))) × (r .passed ≤ skip)
+        × (r .passed ≡ length (between base (now (seq .entry)) from (r .place)))
+        × (r .held ≡ heldBetween lo (now (after .entry)) base (now (seq .entry)) from (r .place)) ⌝ }
+{
+    if skip < 6 || base == b'N' {
+        return Stride {
+            place: from,
+            passed: 0,
+            held: 0,
+        };
+    }
+    strides::pass_blocks(seq, after, lo, base, from, skip)
+}
+
 // From a place on, passes `skip` of the group's bases: the place of the next, and how many of the passed ones are still held. A base that is
 // gone counts in no skip. 7 where there is no such base.
 pub fn pass_tracked(
@@ -61,12 +79,13 @@ pub fn pass_tracked(
     ensures { λ r. ⌜ reachedSays r
         ≡ passing (heldIn lo (now (after .entry)) base) 0 (skip .0) (trackedFrom base (from .0) (now (seq .entry))) ⌝ }
 {
-    let mut ordinal = Ordinal(0);
-    let mut held = Ordinal(0);
-    let mut pos = from;
+    let start = ahead(seq, after, lo, base, from.0, skip.0);
+    let mut ordinal = Ordinal(start.passed);
+    let mut held = Ordinal(start.held);
+    let mut pos = Place(start.place);
     while pos.0 < seq.len() {
         let at = pos.0;
-        let hit = counts(base, seq[at]);
+        let hit = strides::counts(base, seq[at]);
         if hit {
             if ordinal.0 == skip.0 {
                 return Reached::On(pos, held);
@@ -118,17 +137,38 @@ pub fn read_entry(
     reached
 }
 
+// The lesser of the two.
+fn at_most(n: usize, most: usize) -> usize
+    ensures { λ r. ⌜ r ≡ min n most ⌝ }
+{
+    if n < most {
+        return n;
+    }
+    most
+}
+
+// How many of so many bytes a row has room for from a place on.
+fn fitting(room: usize, at: usize, bytes: usize) -> usize
+    ensures { λ r. ⌜ r ≡ min bytes (room - at) ⌝ }
+{
+    if room <= at {
+        return 0;
+    }
+    at_most(bytes, room - at)
+}
+
 // Puts bytes from a place on, as far as the room reaches, and gives the place after them.
 pub fn put_all(out: &mut [u8], at: usize, bytes: &[u8]) -> usize
     requires { ⌜ (at ≤ 4294967296) × (length (now bytes) ≤ 4294967296) ⌝ }
     ensures { λ r. ⌜ (r ≡ at + length (now (bytes .entry))) × (now (out .exit) ≡ sets (now (out .entry)) at (now (bytes .entry))) ⌝ }
 {
+    let n = fitting(out.len(), at, bytes.len());
     let mut i = 0;
-    while i < bytes.len() {
-        numbers::put(out, at + i, bytes[i]);
+    while i < n {
+        out[at + i] = bytes[i];
         i += 1;
     }
-    at + i
+    at + bytes.len()
 }
 
 // Puts a comma and the skip, as far as the room reaches, and gives the place after them.

@@ -42,13 +42,12 @@ pub fn lies_in(after: &[u8], seq: &[u8], lo: usize) -> bool
     if seq.len() - lo < after.len() {
         return false;
     }
+    let mut lies = true;
     let mut i = 0;
     while i < after.len() {
         let fits = stands(after[i], seq[lo + i]);
-        if !fits {
-            return false;
-        }
+        lies = lies & fits;
         i += 1;
     }
-    true
+    lies
 }

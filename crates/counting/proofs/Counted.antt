@@ -20,7 +20,7 @@ use Rattle.pattern.specs.declared.ConversionPattern.{ConversionPattern}
 use Rattle.evidence.specs.Position.{capped}
 use Rattle.evidence.specs.declared.MethylationEvidence.{MethylationEvidence}
 use Rattle.lent.proofs.Tabulate.{length-tabulate, getD-tabulate, tabulate-ext, changed-is-tabulate, changed-idle}
-use Rattle.counting.specs.Counting.{countedThere, countAfter, addRead, addReads}
+use Rattle.counting.specs.Counting.{countsThere, countedThere, countAfter, addRead, addReads}
 use Rattle.columns.specs.Columns.{isYes, yesByte, informativeAt, informativeColumn}
 use Rattle.counting.specs.Reads.{Read, countsAt, basesAt, howMany, countColumn}
 
@@ -92,22 +92,20 @@ counted-column base p all? row rs n =
 -- ---- one read over a column
 
 -- at a position that the read reaches, the evidence is counted as the columns are
-pub there-unconverted : (all? : Bool) (e : MethylationEvidence) (p : ConversionPattern) (inf : List ℕ) (r : Read) (i : ℕ)
-    → i < length (r .bases) → e .informative ≡ isYes (getD inf i 0)
-    → countedThere all? e (getD (r .bases) i 0) (getD (r .aligned) i 0) p .unconverted ≡ countAfter (basesOf p .unconverted) all? inf r i
-    (e .unconverted)
-unfolding countAfter
-there-unconverted all? e p inf r i h y =
-    rw (lt-ltb i (length (r .bases)) h, y)
-    (by-test (all? || (isYes (getD inf i 0) && isYes (getD (r .aligned) i 0))) (λ t. rw t) (λ t. rw t))
+module _ (all? : Bool) (p : ConversionPattern) (inf : List ℕ) (r : Read) (i unc con : ℕ) where
+  -- the evidence at position i of the columns with the read's base counted
+  abbrev there : MethylationEvidence
+  there = countedThere all? (getD inf i 0) unc con (getD (r .bases) i 0) (getD (r .aligned) i 0) p
 
-pub there-converted : (all? : Bool) (e : MethylationEvidence) (p : ConversionPattern) (inf : List ℕ) (r : Read) (i : ℕ)
-    → i < length (r .bases) → e .informative ≡ isYes (getD inf i 0)
-    → countedThere all? e (getD (r .bases) i 0) (getD (r .aligned) i 0) p .converted ≡ countAfter (basesOf p .converted) all? inf r i (e .converted)
-unfolding countAfter
-there-converted all? e p inf r i h y =
-    rw (lt-ltb i (length (r .bases)) h, y)
-    (by-test (all? || (isYes (getD inf i 0) && isYes (getD (r .aligned) i 0))) (λ t. rw t) (λ t. rw t))
+  pub there-unconverted : i < length (r .bases) → there .unconverted ≡ countAfter (basesOf p .unconverted) all? inf r i unc
+  unfolding countAfter
+  there-unconverted h =
+      rw (lt-ltb i (length (r .bases)) h) (by-test (countsThere all? (getD inf i 0) (getD (r .aligned) i 0)) (λ t. rw t) (λ t. rw t))
+
+  pub there-converted : i < length (r .bases) → there .converted ≡ countAfter (basesOf p .converted) all? inf r i con
+  unfolding countAfter
+  there-converted h =
+      rw (lt-ltb i (length (r .bases)) h) (by-test (countsThere all? (getD inf i 0) (getD (r .aligned) i 0)) (λ t. rw t) (λ t. rw t))
 
 -- a position that the read does not reach stays as it is
 not-reached : (base : ℕ) (all? : Bool) (inf : List ℕ) (r : Read) (i n : ℕ) → length (r .bases) ≤ i → countAfter base all? inf r i n ≡ n

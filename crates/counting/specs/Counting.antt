@@ -13,10 +13,15 @@ use Rattle.columns.specs.Columns.{isYes}
 use Rattle.counting.specs.Reads.{Read, countsAt}
 use Rattle.evidence.specs.declared.MethylationEvidence.{MethylationEvidence}
 
--- the base that a read shows at a position which it reaches: counted where all positions are, or where the position is informative and the
--- base aligned
-abbrev pub countedThere : Bool → MethylationEvidence → ℕ → ℕ → ConversionPattern → MethylationEvidence
-countedThere all? e base aligned p = cond (all? || (e .informative && isYes aligned)) (counted e base p) e
+-- a base that a read shows at a position counts where all positions do, or where the position is informative and the base aligned
+abbrev pub countsThere : Bool → ℕ → ℕ → Bool
+countsThere all? informative aligned = all? || (isYes informative && isYes aligned)
+
+-- the evidence of a position with the base counted that a read shows there, where it counts
+abbrev pub countedThere : Bool → ℕ → ℕ → ℕ → ℕ → ℕ → ConversionPattern → MethylationEvidence
+countedThere all? informative unconverted converted base aligned p =
+    let e : MethylationEvidence = record { informative = isYes informative; unconverted = unconverted; converted = converted } in
+    cond (countsThere all? informative aligned) (counted e base p) e
 
 -- the count of a base at position i after one read more
 unfoldable pub countAfter : ℕ → Bool → List ℕ → Read → ℕ → ℕ → ℕ

@@ -1,38 +1,61 @@
 // Fills the columns of evidence from reads: marks, zeroes, then counts read by read, so that the bases of all reads are passed over once and in
 // order. A support crate: a function here may ask something of its caller (`requires`); the public calls stand in `annotation`.
 ghost use mathlib.Core.Path.{_≡_};
-ghost use lib.ListN.{length};
+ghost use Prim.Native.Nat.{_<_};
+ghost use lib.ListN.{length, getD, set};
 ghost use Rattle.pattern.specs.Patterns.{basesOf};
 ghost use Rattle.lent.specs.Lists.{sum};
 ghost use Rattle.columns.specs.Columns.{informativeColumn};
 ghost use Rattle.counting.specs.Reads.{Read, readsOf, unconvertedColumn, convertedColumn};
-ghost use Rattle.counting.specs.Counting.{countedThere, addRead, addReads};
+ghost use Rattle.counting.specs.Counting.{countsThere, countedThere, addRead, addReads};
 use columns::clear;
 use columns::marks::mark;
 use evidence::MethylationEvidence;
 use pattern::ConversionPattern;
 use refusals::smaller;
 
-// The evidence of a position with the base counted that a read shows there, where it counts.
-fn counted_there(
-    evidence: MethylationEvidence,
+// Whether a base counts: where all positions do, or where the position is informative and the base aligned.
+fn counts_there(count_all_positions: bool, informative: u8, aligned: u8) -> bool
+    ensures { λ r. ⌜ r ≡ countsThere «count_all_positions» informative aligned ⌝ }
+{
+    if count_all_positions {
+        return true;
+    }
+    if informative == 0 {
+        return false;
+    }
+    aligned != 0
+}
+
+// Counts the base that a read shows at position i. Where it does not count, as at most positions, no column is touched.
+fn count_base(
     base: u8,
     aligned: u8,
     pattern: ConversionPattern,
     count_all_positions: bool,
-) -> MethylationEvidence
-    ensures { λ r. ⌜ r ≡ countedThere «count_all_positions» evidence base aligned pattern ⌝ }
+    informative: u8,
+    i: usize,
+    unconverted: &mut [u32],
+    converted: &mut [u32],
+)
+    requires { ⌜ (i < length (now unconverted)) × (i < length (now converted)) ⌝ }
+    ensures { λ _. ⌜ (let after = countedThere «count_all_positions» informative (getD (now (unconverted .entry)) i 0)
+        (getD (now (converted .entry)) i 0) base aligned pattern in
+        (now (unconverted .exit) ≡ set (now (unconverted .entry)) i (after .unconverted))
+        × (now (converted .exit) ≡ set (now (converted .entry)) i (after .converted))) ⌝ }
 {
-    if count_all_positions {
-        return evidence.counted(base, pattern);
+    let counts = counts_there(count_all_positions, informative, aligned);
+    if !counts {
+        return;
     }
-    if !evidence.informative {
-        return evidence;
-    }
-    if aligned == 0 {
-        return evidence;
-    }
-    evidence.counted(base, pattern)
+    let before = MethylationEvidence {
+        informative: informative != 0,
+        unconverted: unconverted[i],
+        converted: converted[i],
+    };
+    let after = before.counted(base, pattern);
+    unconverted[i] = after.unconverted;
+    converted[i] = after.converted;
 }
 
 // Counts one read over the columns, as far as both reach.
@@ -56,14 +79,16 @@ fn count_read(
     let reached = smaller(bases.len(), informative.len());
     let mut i = 0;
     while i < reached {
-        let before = MethylationEvidence {
-            informative: informative[i] != 0,
-            unconverted: unconverted[i],
-            converted: converted[i],
-        };
-        let after = counted_there(before, bases[i], aligned[i], pattern, count_all_positions);
-        unconverted[i] = after.unconverted;
-        converted[i] = after.converted;
+        count_base(
+            bases[i],
+            aligned[i],
+            pattern,
+            count_all_positions,
+            informative[i],
+            i,
+            unconverted,
+            converted,
+        );
         i += 1;
     }
 }

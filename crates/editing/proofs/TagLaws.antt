@@ -3,32 +3,34 @@
 use mathlib.Core.Path.{_≡_, refl, sym, ap, _∙_}
 use Prim.Native.Nat.{ℕ, _≤_, _<_}
 use native.Mathlib.Omega.{arith}
-use mathlib.Core.Bool.{Bool, true, false, cond, _&&_}
-use mathlib.Core.List.{List, []}
+use mathlib.Core.Bool.{Bool, true, false, cond, not, _&&_}
+use mathlib.Core.List.{List, [], map}
 use lib.Dec.{eqb, leb}
-use lib.ListN.{length}
+use lib.ListN.{getD, length}
 use lib.Seq.{sets}
-use borrow.Author.Tests.{eqb-true, le-leb, lt-leb}
+use borrow.Author.Tests.{eqb-true, le-leb, lt-leb, not-false}
 use Rattle.lent.proofs.Filled.{over-stored}
 use Rattle.lent.proofs.Lists.{empty-of-length}
-use Rattle.lent.proofs.Outcome.{and-then-inv, done-inj, need-rest, need-test}
+use Rattle.lent.proofs.Outcome.{and-then-inv, done-inj, need-rest, need-test, on-done-inv}
 use Rattle.lent.specs.Filled.{leaves, over}
 use Rattle.lent.specs.Lists.{every, lastOr}
-use Rattle.lent.specs.Outcome.{Outcome, done, onDone, refuse, refused}
+use Rattle.lent.specs.Outcome.{Outcome, andThen, done, onDone, refuse, refused}
 use Rattle.lent.specs.declared.Refusal.{Refusal}
 use Rattle.samtags.proofs.Length.{never-longer}
 use Rattle.samtags.proofs.Taken.{taken-again}
 use Rattle.samtags.specs.Bytes.{isAscii}
-use Rattle.samtags.specs.Edits.{Edit, edited, inRoom}
-use Rattle.samtags.specs.Reading.{read, readGroups}
+use Rattle.samtags.specs.Edits.{Edit, changed, edited, inRoom}
+use Rattle.samtags.specs.Reading.{nowhere, read, readGroups}
 use Rattle.samtags.specs.Spots.{Group}
 use Rattle.samtags.specs.Text.{closedBy}
-use Rattle.samtags.specs.Writing.{Tag}
+use Rattle.samtags.specs.Writing.{Tag, sizesOf, written}
 use Rattle.changing.specs.Drafts.{Draft, draft}
-use Rattle.samtags.specs.Writing.{sizesOf}
+use Rattle.changing.specs.Windows.{isMarked}
+use Rattle.measuring.specs.Counting.{groupsCounted}
 use Rattle.editing.specs.Rewrote.{leavesTag, rewrote, valuesWith}
 use Rattle.editing.specs.Tags.{TagMeasured}
 use Rattle.editing.specs.Walks.{TagEdited, editedGroups, tagPut}
+use Rattle.editing.specs.declared.walk.Cursor.{Cursor}
 use Rattle.editing.specs.declared.walk.Edited.{Edited}
 use Rattle.editing.specs.declared.walk.Edited.the-variants.{To, Refused}
 
@@ -141,3 +143,53 @@ module _ (ml? : Bool) (t v : List ℕ) (o : Outcome Tag) (u : Tag) (e : o ≡ do
       go : (b : Bool) → cond b true true ≡ true
       go true = refl
       go false = refl
+
+-- ---- a tag that was only counted
+
+module _ (e : Edit) (ml? : Bool) (seq text ml : List ℕ) where
+  -- what is refused as it is read
+  pub edited-refused : (r : Refusal) → read ml? (e .dropped) seq text ml ≡ refused r → edited e ml? seq text ml ≡ refused r
+  unfolding edited
+  edited-refused r h = rw h
+
+  -- what is read is edited
+  pub edited-read : (n : ℕ × ℕ) → onDone (groupsCounted 0 0) (read ml? (e .dropped) seq text ml) ≡ done n → (u : Tag) × (edited e ml? seq text ml ≡ done u)
+  unfolding edited
+  edited-read n h =
+      let w = on-done-inv (groupsCounted 0 0) (read ml? (e .dropped) seq text ml) n h in
+      (written (map (changed e) (w .0)), ap (λ (o : Outcome (List Group)). andThen o (λ gs. done (written (map (changed e) gs)))) (w .1))
+
+-- no call is marked in an empty row
+pub unmarked : (marks : List ℕ) → not (eqb (length marks) 0) ≡ false → isMarked marks ≡ nowhere
+unfolding isMarked
+unmarked marks h = λ j p. ap (λ (l : List ℕ). not (eqb (getD l p 0) 0)) (empty-of-length marks (eqb-true (length marks) 0 (not-false (eqb (length marks) 0) h))) j
+
+-- the walk over rows that are as long as the tag was, of a tag that is known to be edited
+module _ (e : Edit) (ml? : Bool) (seq text ml : List ℕ) (whole : cond ml? ml [] ≡ ml) (u : Tag) (k : edited e ml? seq text ml ≡ done u)
+    (t v t′ v′ : List ℕ) where
+  abbrev groupsRead : Outcome (List Group)
+  groupsRead = readGroups ml? (e .dropped) seq (closedBy 59 text) ml
+
+  known-groups : editedGroups e groupsRead ≡ done u
+  known-groups =
+      ap (λ (m : List ℕ). editedGroups e (readGroups ml? (e .dropped) seq (closedBy 59 text) m)) (sym whole) ∙ edited-passed e ml? seq text ml u k .1
+
+  pub never-refused : (r : Refusal) → TagEdited e groupsRead t v (Refused r) t′ v′ → ⊥
+  never-refused r h =
+      let x : _≡_ {A = Outcome Tag} (refused r) (done u) = ap (editedGroups e) (sym h) ∙ known-groups in
+      let z : _≡_ {A = ℕ} 0 1 = cc in omega arith
+
+  module _ (d : Cursor) (h : TagEdited e groupsRead t v (To d) t′ v′) where
+    pub stored-whole : (t′ ≡ sets t 0 (u .text)) × (v′ ≡ sets v 0 (u .ml)) × (length (u .text) ≡ d .end) × (length (u .ml) ≡ d .kept)
+    stored-whole =
+        let rows = rows-stored e groupsRead u known-groups t v (To d) t′ v′ h in
+        let sizes : sizesOf u ≡ (d .end, d .kept) = done-inj (ap (onDone sizesOf) (sym known-groups) ∙ measured e groupsRead t v (To d) t′ v′ h) in
+        (rows .0, rows .1, ap (λ (n : ℕ × ℕ). n .0) sizes, ap (λ (n : ℕ × ℕ). n .1) sizes)
+
+    pub written-leaves : length text ≤ length t → length ml ≤ length v
+        → rewrote (done (d .end, d .kept)) t′ v′ ≡ leavesTag ml? (inRoom ml? (length t) (length v) (edited e ml? seq text ml)) t v
+    written-leaves a b =
+        let short = never-longer e ml? seq text ml u k in
+        let s = stored-whole in
+        done-leaves ml? t v (edited e ml? seq text ml) u k (values-with e ml? seq text ml u k) (omega (arith, short .0))
+        (omega (arith, short .1, ap length whole)) (d .end) (d .kept) (s .2) (s .3) t′ v′ (s .0) (s .1)

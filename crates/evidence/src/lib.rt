@@ -3,10 +3,11 @@
 // Names are the Rust's. Counting, gating and the rest over columns stand in the crate `annotation`. No function here asks anything of its caller,
 // and each contract is an equation with a definition of specs/.
 ghost use mathlib.Core.Path.{_≡_};
+ghost use Prim.Native.Nat.{_+_};
 ghost use lib.ListN.{length};
 ghost use Rattle.lent.specs.Outcome.{says};
 ghost use Rattle.lent.specs.Filled.{leaves};
-ghost use Rattle.evidence.specs.Position.{fresh, countedIf, counted, gated};
+ghost use Rattle.evidence.specs.Position.{capped, fresh, counted, gated};
 ghost use Rattle.evidence.specs.Row.{gatedRow, rowOf, recordsToGate};
 use lent::Refusal;
 use lent::Written;
@@ -37,14 +38,23 @@ impl MethylationEvidence {
         ensures { λ r. ⌜ r ≡ counted self base pattern ⌝ }
     {
         let bases = pattern.bases();
-        let shown = pattern::to_ascii_uppercase(base);
         let unconverted = self.unconverted;
         let converted = self.converted;
-        MethylationEvidence {
-            informative: self.informative,
-            unconverted: counted_if(shown == bases.unconverted, unconverted),
-            converted: counted_if(shown == bases.converted, converted),
+        if pattern::eq_ignore_ascii_case(base, bases.unconverted) {
+            return MethylationEvidence {
+                informative: self.informative,
+                unconverted: one_more(unconverted),
+                converted: converted,
+            };
         }
+        if pattern::eq_ignore_ascii_case(base, bases.converted) {
+            return MethylationEvidence {
+                informative: self.informative,
+                unconverted: unconverted,
+                converted: one_more(converted),
+            };
+        }
+        self
     }
 
     // The evidence as it is where the position is informative, and none elsewhere.
@@ -58,13 +68,10 @@ impl MethylationEvidence {
     }
 }
 
-// One more where the base is the one that is counted, and no more than a u32 holds.
-fn counted_if(is: bool, count: u32) -> u32
-    ensures { λ r. ⌜ r ≡ countedIf is count ⌝ }
+// One more, and no more than a u32 holds.
+fn one_more(count: u32) -> u32
+    ensures { λ r. ⌜ r ≡ capped (count + 1) ⌝ }
 {
-    if !is {
-        return count;
-    }
     if count == u32::MAX {
         return u32::MAX;
     }

@@ -1,13 +1,13 @@
 -- Laws of the tests over a list, of lists that are known from a place on, and of the tests at a place that a loop has come to.
 -- Assumes nothing.
 use mathlib.Core.Path.{_≡_, refl, sym, ap, _∙_}
-use mathlib.Core.Bool.{Bool, true, false, not, _&&_, _||_}
+use mathlib.Core.Bool.{Bool, true, false, cond, not, _&&_, _||_}
 use mathlib.Core.List.{List, [], _∷_, _++_, map, append-assoc, map-append}
 use Prim.Native.Nat.{ℕ, zero, suc, _+_, _-_, _≤_, _<_}
 use native.Mathlib.Nat.{suc-ne-zero}
 use native.Mathlib.Numerals.{add-one}
 use native.Mathlib.Omega.{arith}
-use lib.ListN.{length, getD, take, drop, drop-of-length-le}
+use lib.ListN.{length, length-append, getD, take, drop, drop-of-length-le}
 use lib.Seq.{drop-cons, take-nil, take-suc}
 use Rattle.lent.specs.Lists.{every, any, filter, lastOr, concatMap}
 use Rattle.lent.proofs.Tests.{by-test, and-true, and-true-l, and-true-r}
@@ -114,6 +114,22 @@ module _ {A : Type 0} where
   take-step zero xs e = ap (take 1) e
   take-step (suc n) [] e = cc
   take-step (suc n) (x ∷ xs) e = ap (λ (r : List A). x ∷ r) (take-step n xs e)
+
+  -- ---- the first elements of a list, with one more
+
+  pub take-more : (l : List A) (i : ℕ) (d : A) → i < length l → take (i + 1) l ≡ take i l ++ getD l i d ∷ []
+  take-more l i d h = rw add-one (take-step i l (drop-here l i d h))
+
+  pub every-more : (t : A → Bool) (l : List A) (i : ℕ) (d : A) → i < length l → every t (take (i + 1) l) ≡ every t (take i l) && t (getD l i d)
+  every-more t l i d h =
+      rw (take-more l i d h, every-append t (take i l) (getD l i d ∷ [])) (by-test (t (getD l i d)) (λ q. rw q) (λ q. rw q))
+
+  -- how many of them pass a test
+  pub count-more : (t : A → Bool) (l : List A) (i : ℕ) (d : A) → i < length l
+      → length (filter t (take (i + 1) l)) ≡ length (filter t (take i l)) + cond (t (getD l i d)) 1 0
+  count-more t l i d h =
+      rw (take-more l i d h, filter-append t (take i l) (getD l i d ∷ []), length-append (filter t (take i l)) (filter t (getD l i d ∷ [])))
+      (by-test (t (getD l i d)) (λ q. rw q) (λ q. rw q))
 
   pub getD-step : (n : ℕ) (xs : List A) (d : A) {y : A} {ys : List A} → drop n xs ≡ y ∷ ys → getD xs n d ≡ y
   getD-step zero xs d e = ap (λ (l : List A). getD l 0 d) e

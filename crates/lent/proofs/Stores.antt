@@ -31,7 +31,7 @@ module _ {A : Type 0} where
       ap (sets l (n + i)) (drop-here s i d h) ∙ ap (λ (k : ℕ). sets (set l (n + i) (getD s i d)) k (drop (i + 1) s)) q
 
   -- past the row's end nothing is stored
-  sets-out : (xs l : List A) (n : ℕ) → length l ≤ n → sets l n xs ≡ l
+  pub sets-out : (xs l : List A) (n : ℕ) → length l ≤ n → sets l n xs ≡ l
   sets-out [] l n h = refl
   sets-out (x ∷ xs) l n h = rw (set-out l n x h) (sets-out xs l (suc n) (omega arith))
 

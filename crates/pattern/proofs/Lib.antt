@@ -1,2 +1,3 @@
 pub mod Unique
 pub mod Examples
+pub mod Cases

@@ -5,6 +5,9 @@ ghost use mathlib.Core.Path.{_≡_};
 ghost use Rattle.pattern.specs.Case.{upper, sameInAnyCase};
 ghost use Rattle.pattern.specs.Patterns.{patternOf, basesOf, letterOf, signOf, isEnabled};
 
+// All bits but the one that tells a letter's cases apart.
+const NO_CASE: u8 = 0xDF;
+
 // An ASCII letter in upper case; any other byte as it is.
 pub fn to_ascii_uppercase(b: u8) -> u8
     ensures { λ r. ⌜ r ≡ upper b ⌝ }
@@ -18,11 +21,18 @@ pub fn to_ascii_uppercase(b: u8) -> u8
     b - 32
 }
 
-// The two bytes are the same letter in any case, or the same byte.
+// The two bytes are the same letter in any case, or the same byte. Where many bytes are held against one letter, each is masked and compared once.
 pub fn eq_ignore_ascii_case(a: u8, b: u8) -> bool
     ensures { λ r. ⌜ r ≡ sameInAnyCase a b ⌝ }
 {
-    to_ascii_uppercase(a) == to_ascii_uppercase(b)
+    let capital = b & NO_CASE;
+    if capital < b'A' {
+        return a == b;
+    }
+    if b'Z' < capital {
+        return a == b;
+    }
+    a & NO_CASE == capital
 }
 
 // How a read displays conversions in its own orientation. In a directional library R1 and unpaired reads are the original strand's own

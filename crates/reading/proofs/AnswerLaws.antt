@@ -1,12 +1,12 @@
 -- From what the walk over a tag says to what the public calls answer and leave.
 -- Assumes nothing.
 use mathlib.Core.Path.{_≡_, refl, _∙_, ap, sym}
-use Prim.Native.Nat.{_+_, _-_, ℕ, _<_, _≤_}
+use Prim.Native.Nat.{_+_, _-_, suc, ℕ, _<_, _≤_}
 use native.Mathlib.Omega.{arith}
 use mathlib.Core.Bool.{Bool, false, true, _&&_}
-use mathlib.Core.List.{List, map}
+use mathlib.Core.List.{List, [], _∷_, map}
 use lib.Dec.{leb}
-use lib.ListN.{length, length-map}
+use lib.ListN.{length, length-append, length-map}
 use lib.Seq.{sets}
 use borrow.Author.Tests.{le-leb, lt-leb}
 use Rattle.lent.proofs.Filled.{over-stored}
@@ -16,30 +16,45 @@ use Rattle.lent.specs.Lists.{filter}
 use Rattle.lent.specs.Outcome.{Outcome, andThen, done, need, onDone, refused, refuse}
 use Rattle.lent.specs.declared.Refusal.{Refusal}
 use Rattle.samtags.proofs.Tally.{tally-counts-all}
-use Rattle.samtags.specs.Reading.{inDomain, isBelow, nowhere, read, readTag, rowsFrom, tallyOf, tallyTag, Row, callList, lists}
-use Rattle.samtags.specs.Spots.{Group, Listing, listing}
+use Rattle.samtags.specs.Reading.{inDomain, isAbove, isBelow, nowhere, read, readTag, rowsFrom, rowsOf, valuesIn, tallyOf, tallyTag, Row, callList, lists}
+use Rattle.samtags.specs.Spots.{Group, Listing, callsIn, listing}
 use Rattle.reading.proofs.CheckLaws.{tested}
 use Rattle.reading.specs.Calls.{countsOf, callsRead, listedCalls, readCalls}
 use Rattle.reading.specs.Measured.{TagMeasured}
-use Rattle.scanning.specs.Scanning.{Columns, Finished, TagScanned, aboveIn, columns, finished, withRows}
+use Rattle.scanning.specs.Scanning.{Columns, Finished, TagScanned, columns, finished, withRows}
 use Rattle.scanning.specs.declared.Scan.{Scan}
-use Rattle.scanning.specs.declared.Scan.the-variants.{To, Refused}
+use Rattle.scanning.proofs.ScanLaws.{rows-count}
+use Rattle.measuring.proofs.CountLaws.{NotTo, unless-to}
+use Rattle.measuring.specs.Counting.{TagCounted, callsOf, countedRefusal, groupsCounted}
+use Rattle.measuring.specs.declared.Counted.{Counted}
+use Rattle.measuring.specs.declared.Counted.the-variants.{To, Refused, Unsure}
+use Rattle.scanning.specs.declared.Scan.the-variants as scan
 
--- ---- a walk over no columns
+-- ---- the walk that needs no places
 
-counts-of-finished : (c : Columns) (o : Outcome (List Group))
-    → onDone (λ (f : Finished). (f .groups, f .calls)) (onDone (finished 0 c 0 0) o) ≡ onDone (λ gs. countsOf (map listing gs)) o
+rows-all : (g u : ℕ) (gs : List Group) → length (rowsFrom g u (map listing gs)) ≡ callsOf gs
+rows-all g u [] = refl
+rows-all g u (x ∷ gs) =
+    let cs = callsIn (x .spots) in
+    omega (arith, length-append (rowsOf g u cs) (rowsFrom (suc g) (u + valuesIn cs) (map listing gs)), rows-count g u cs, rows-all (suc g) (u + valuesIn cs) gs)
+
+counts-are : (o : Outcome (List Group)) → onDone (λ gs. countsOf (map listing gs)) o ≡ onDone (groupsCounted 0 0) o
 unfolding callList
-counts-of-finished c (refused r) = refl
-counts-of-finished c (done gs) =
-    let groups : 0 + length gs ≡ length (map listing gs) = omega (arith, length-map gs listing) in
-    let calls : 0 + length (rowsFrom 1 0 (map listing gs)) ≡ length (rowsFrom 1 0 (map listing gs)) = omega arith in
+counts-are (refused r) = refl
+counts-are (done gs) =
+    let groups : length (map listing gs) ≡ 0 + length gs = omega (arith, length-map gs listing) in
+    let calls : length (rowsFrom 1 0 (map listing gs)) ≡ 0 + callsOf gs = omega (arith, rows-all 1 0 gs) in
     λ j. done (groups j, calls j)
 
-pub measured : (ml : List ℕ) (o : Outcome (List Group)) (before : Columns) (r : Scan) (after : Columns) → TagScanned ml o before r after → TagMeasured ml o r
-measured ml o before (Refused r) after h = h
-measured ml o before (To d) after h =
-    (sym (counts-of-finished before o) ∙ ap (onDone (λ (f : Finished). (f .groups, f .calls))) (h .0), h .1)
+pub measured : (o : Outcome (List Group)) (r : Counted) → TagCounted false o r → TagMeasured o r
+measured o (Refused r) h = h
+measured o Unsure h = let z : _≡_ {A = ℕ} 0 1 = cc in absurd (omega arith)
+measured o (To d) h = counts-are o ∙ h
+
+-- an answer that is not `To` is a refusal
+pub refused-with : (o : Outcome (List Group)) (r : Counted) → NotTo r → TagMeasured o r → o ≡ refused (countedRefusal r)
+refused-with o r k =
+    unless-to (λ (x : Counted). TagMeasured o x → o ≡ refused (countedRefusal x)) r k (λ q e h. h) (λ e h. absurd h)
 
 -- ---- the answers
 
@@ -75,7 +90,7 @@ unfolding tallyTag
 tally-refused seq text ml r e = rw (tag-refused true seq text ml r e)
 
 pub tally-done : (seq text ml : List ℕ) (above groups calls : ℕ) → onDone (λ gs. countsOf (map listing gs)) (tested true seq text ml) ≡ done (groups, calls)
-    → above ≡ aboveIn ml → tallyTag seq text ml ≡ done (record { above = above; below = length ml - above })
+    → above ≡ length (filter isAbove ml) → tallyTag seq text ml ≡ done (record { above = above; below = length ml - above })
 unfolding tallyTag tallyOf
 tally-done seq text ml above groups calls e h =
     let w = on-done-inv (λ gs. countsOf (map listing gs)) (tested true seq text ml) (groups, calls) e in
@@ -142,8 +157,8 @@ tag-known ml? seq text ml groups calls e =
     (w .0, w .1, read-tag-is ml? seq text ml ∙ ap (onDone (map listing)) (w .1), w .2)
 
 -- the columns after a walk over groups that are read
-pub scanned-rows : (ml : List ℕ) (o : Outcome (List Group)) (before : Columns) (r : Scan) (after : Columns) (gs : List Group) → o ≡ done gs
-    → TagScanned ml o before r after → withRows before 0 (callList (map listing gs)) ≡ after
+pub scanned-rows : (o : Outcome (List Group)) (before : Columns) (r : Scan) (after : Columns) (gs : List Group) → o ≡ done gs
+    → TagScanned o before r after → withRows before 0 (callList (map listing gs)) ≡ after
 unfolding callList
-scanned-rows ml o before (Refused q) after gs e h = let x : refused q ≡ done gs = sym h ∙ e in let z : _≡_ {A = ℕ} 0 1 = cc in absurd (omega arith)
-scanned-rows ml o before (To d) after gs e h = ap (λ (f : Finished). f .rows) (done-inj (ap (onDone (finished 0 before 0 0)) (sym e) ∙ h .0))
+scanned-rows o before (scan.Refused q) after gs e h = let x : refused q ≡ done gs = sym h ∙ e in let z : _≡_ {A = ℕ} 0 1 = cc in absurd (omega arith)
+scanned-rows o before (scan.To d) after gs e h = ap (λ (f : Finished). f .rows) (done-inj (ap (onDone (finished 0 before 0 0)) (sym e) ∙ h))

@@ -1,8 +1,8 @@
 -- What is asked of a tag before its groups are read: each test by itself, in the scope's order.
 -- Assumes nothing.
-use mathlib.Core.Path.{_≡_, _∙_}
+use mathlib.Core.Path.{_≡_}
 use Prim.Native.Nat.{_<_, _≤_, ℕ}
-use mathlib.Core.Bool.{Bool, cond, false, true}
+use mathlib.Core.Bool.{Bool, cond}
 use mathlib.Core.List.{List, []}
 use lib.Dec.{eqb}
 use lib.ListN.{length}
@@ -30,21 +30,8 @@ module _ (ml? : Bool) (seq text ml : List ℕ) where
     pub one-ml : 65536 < n → tested ≡ refuse 1
     one-ml h = rw (le-leb (length seq) 16000 a, le-leb (length text) 65536 b, taken-fits ml? ml, ← taken, lt-leb n 65536 h)
 
-    module _ (c : n ≤ 65536) where
-      inside : tested ≡ read ml? nowhere seq text ml
-      inside = rw (le-leb (length seq) 16000 a, le-leb (length text) 65536 b, taken-fits ml? ml, ← taken, le-leb n 65536 c)
-
-      pub three : every isAscii text ≡ false → tested ≡ refuse 3
-      unfolding read
-      three h = inside ∙ rw h
-
-      pub four : every isAscii text ≡ true → eqb (lastOr 0 text) 59 ≡ false → tested ≡ refuse 4
-      unfolding read
-      four h e = inside ∙ rw (h, e)
-
-      pub read-on : every isAscii text ≡ true → eqb (lastOr 0 text) 59 ≡ true → tested ≡ readGroups ml? nowhere seq (closedBy 59 text) (cond ml? ml [])
-      unfolding read
-      read-on h e = inside ∙ rw (h, e)
+    pub inside : n ≤ 65536 → tested ≡ read ml? nowhere seq text ml
+    inside c = rw (le-leb (length seq) 16000 a, le-leb (length text) 65536 b, taken-fits ml? ml, ← taken, le-leb n 65536 c)
 
 -- a tag that passes all of them
 pub record Passed (ml? : Bool) (seq text ml : List ℕ) (gs : List Group) : Type 0 where

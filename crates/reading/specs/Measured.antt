@@ -1,16 +1,15 @@
 -- What the first walk over a tag answers: the contract of a private function.
 -- Assumes nothing.
-use Prim.Native.Nat.{ℕ}
 use mathlib.Core.Path.{_≡_}
 use mathlib.Core.List.{List, map}
 use Rattle.lent.specs.Outcome.{Outcome, refused, done, onDone}
 use Rattle.samtags.specs.Spots.{Group, listing}
-use Rattle.scanning.specs.Scanning.{aboveIn}
-use Rattle.scanning.specs.declared.Scan.{Scan}
-use Rattle.scanning.specs.declared.Scan.the-variants.{To, Refused}
+use Rattle.measuring.specs.declared.Counted.{Counted}
+use Rattle.measuring.specs.declared.Counted.the-variants.{To, Refused, Unsure}
 use Rattle.reading.specs.Calls.{countsOf}
 
--- o is what the answer says of the whole tag, where no column was lent
-abbrev pub TagMeasured : List ℕ → Outcome (List Group) → Scan → Type 0
-TagMeasured ml o (Refused r) = o ≡ refused r
-TagMeasured ml o (To d) = (onDone (λ gs. countsOf (map listing gs)) o ≡ done (d .group, d .calls)) × (d .above ≡ aboveIn ml)
+-- o is what the answer says of the whole tag; no call is marked, so it is never unsure
+abbrev pub TagMeasured : Outcome (List Group) → Counted → Type 0
+TagMeasured o (Refused r) = o ≡ refused r
+TagMeasured o Unsure = ⊥
+TagMeasured o (To d) = onDone (λ gs. countsOf (map listing gs)) o ≡ done (d .group, d .calls)

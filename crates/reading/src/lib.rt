@@ -3,16 +3,15 @@
 // Each call takes SEQ, the MM text and the ML as the caller has them, of any length and content, and answers with the scope's numbers in the
 // scope's order. `has_ml` false is a tag without ML: the row lent for it is then not looked at. No public function asks anything of its caller.
 ghost use mathlib.Core.Path.{_≡_};
-ghost use mathlib.Core.Bool.{cond};
-ghost use mathlib.Core.List.{[]};
 ghost use lib.ListN.{length};
+ghost use Rattle.lent.specs.Lists.{filter};
 ghost use Rattle.lent.specs.Outcome.{onDone, need};
-ghost use Rattle.samtags.specs.Reading.{readTag, tallyTag, inDomain, read, nowhere};
+ghost use Rattle.samtags.specs.Reading.{readTag, tallyTag, inDomain, read, nowhere, isAbove};
 ghost use Rattle.reading.specs.Answers.{readingSays, tallySays};
 ghost use Rattle.reading.specs.Calls.{countsOf, callsRead, readCalls};
 ghost use Rattle.reading.specs.Measured.{TagMeasured};
 use lent::Refusal;
-use scanning::Scan;
+use measuring::Counted;
 
 // A tag that was read, with how many groups and calls it has, or why it was refused.
 pub enum Reading {
@@ -26,11 +25,10 @@ pub enum Tallied {
     Refused(Refusal),
 }
 
-// The first walk, over no columns: everything that can be refused but the room, and what the list will hold.
-fn measure(seq: &[u8], mm: &[u8], ml: &[u8], has_ml: bool) -> Scan
+// The first walk, which needs no places: everything that can be refused but the room, and how long the list will be.
+fn measure(seq: &[u8], mm: &[u8], ml: &[u8], has_ml: bool) -> Counted
     ensures { λ r.
         ⌜ TagMeasured
-        (cond «has_ml» (now (ml .entry)) [])
         (need
         (inDomain «has_ml» (now (seq .entry)) (now (mm .entry)) (now (ml .entry)))
         1
@@ -39,34 +37,15 @@ fn measure(seq: &[u8], mm: &[u8], ml: &[u8], has_ml: bool) -> Scan
 {
     let taken = scanning::values_taken(ml.len(), has_ml);
     if 16000 < seq.len() {
-        return Scan::Refused(Refusal(1));
+        return Counted::Refused(Refusal(1));
     }
     if 65536 < mm.len() {
-        return Scan::Refused(Refusal(1));
+        return Counted::Refused(Refusal(1));
     }
     if 65536 < taken {
-        return Scan::Refused(Refusal(1));
+        return Counted::Refused(Refusal(1));
     }
-    let ascii = tagtext::fields::all_ascii(mm);
-    if !ascii {
-        return Scan::Refused(Refusal(3));
-    }
-    let closed = tagtext::fields::ends_in_semicolon(mm);
-    if !closed {
-        return Scan::Refused(Refusal(4));
-    }
-    let mut groups: [u32; 0] = [];
-    let mut places: [u32; 0] = [];
-    let mut starts: [u32; 0] = [];
-    scanning::scan_groups(
-        seq,
-        mm,
-        &ml[0..taken],
-        has_ml,
-        &mut groups,
-        &mut places,
-        &mut starts,
-    )
+    measuring::count_tag(seq, mm, &ml[0..taken], has_ml, false)
 }
 
 // Reads a tag and answers without a list: how many groups and calls it has.
@@ -74,7 +53,7 @@ pub fn check_tag(seq: &[u8], mm: &[u8], ml: &[u8], has_ml: bool) -> Reading
     ensures { λ r. ⌜ readingSays r ≡ onDone countsOf (readTag «has_ml» (now (seq .entry)) (now (mm .entry)) (now (ml .entry))) ⌝ }
 {
     let measured = measure(seq, mm, ml, has_ml);
-    let Scan::To(end) = measured else {
+    let Counted::To(end) = measured else {
         return Reading::Refused(measured.refusal());
     };
     Reading::Done(end.group, end.calls)
@@ -104,7 +83,7 @@ pub fn read_calls(
         (now (starts .entry)) ⌝ }
 {
     let measured = measure(seq, mm, ml, has_ml);
-    let Scan::To(end) = measured else {
+    let Counted::To(end) = measured else {
         return Reading::Refused(measured.refusal());
     };
     let calls = end.calls;
@@ -122,14 +101,29 @@ pub fn read_calls(
     Reading::Done(end.group, calls)
 }
 
+// How many of the values are above.
+fn count_above(ml: &[u8]) -> usize
+    ensures { λ r. ⌜ r ≡ length (filter isAbove (now (ml .entry))) ⌝ }
+{
+    let mut above: usize = 0;
+    let mut i = 0;
+    while i < ml.len() {
+        if 128 <= ml[i] {
+            above += 1;
+        }
+        i += 1;
+    }
+    above
+}
+
 // How many of a tag's ML values are above (from 128 on) and how many below; each value counts once. It always takes an ML.
 pub fn tally(seq: &[u8], mm: &[u8], ml: &[u8]) -> Tallied
     ensures { λ r. ⌜ tallySays r ≡ tallyTag (now (seq .entry)) (now (mm .entry)) (now (ml .entry)) ⌝ }
 {
     let measured = measure(seq, mm, ml, true);
-    let Scan::To(end) = measured else {
+    let Counted::To(_) = measured else {
         return Tallied::Refused(measured.refusal());
     };
-    let above = end.above;
+    let above = count_above(ml);
     Tallied::Done(above, ml.len() - above)
 }

@@ -1,9 +1,10 @@
-// Marks that vary by place: an output is filled with them before a call, so that afterwards it can be seen where the call wrote.
+// Marks that vary by place: an output is filled with them before a call, so that afterwards it can be seen where the call wrote. The loops look at every
+// entry, which takes less than to stop at the first one that matters: several entries are looked at in one step.
 ghost use Prim.Native.Nat.{_<_, _≤_};
 ghost use lib.ListN.{length};
 
 fn mark(i: usize) -> u8 {
-    (i % 251) as u8
+    (i & 255) as u8
 }
 
 // ---- filling
@@ -55,47 +56,51 @@ pub fn fill_i64(row: &mut [i64]) {
 // ---- what was written from a place on, where nothing may be
 
 pub fn wrote_u8(row: &[u8], from: usize) -> bool {
+    let mut wrote = false;
     let mut i = from;
     while i < row.len() {
         if row[i] != mark(i) {
-            return true;
+            wrote = true;
         }
         i += 1;
     }
-    false
+    wrote
 }
 
 pub fn wrote_u32(row: &[u32], from: usize) -> bool {
+    let mut wrote = false;
     let mut i = from;
     while i < row.len() {
         if row[i] != mark_u32(i) {
-            return true;
+            wrote = true;
         }
         i += 1;
     }
-    false
+    wrote
 }
 
 pub fn wrote_i16(row: &[i16], from: usize) -> bool {
+    let mut wrote = false;
     let mut i = from;
     while i < row.len() {
         if row[i] != mark_i16(i) {
-            return true;
+            wrote = true;
         }
         i += 1;
     }
-    false
+    wrote
 }
 
 pub fn wrote_i64(row: &[i64], from: usize) -> bool {
+    let mut wrote = false;
     let mut i = from;
     while i < row.len() {
         if row[i] != mark_i64(i) {
-            return true;
+            wrote = true;
         }
         i += 1;
     }
-    false
+    wrote
 }
 
 // ---- a row that a call works in, against a copy

@@ -7,8 +7,12 @@
 // one is then looked at. Headers stay as spelled, skips are spelled anew, and a group that lost all its calls stays. No public function asks anything
 // of its caller.
 ghost use mathlib.Core.Path.{_≡_};
+ghost use mathlib.Core.Bool.{true};
+ghost use Prim.Native.Nat.{_≤_};
 ghost use lib.ListN.{length};
 ghost use Rattle.samtags.specs.Edits.{maskTag, dropFromTag, cutTag};
+ghost use Rattle.samtags.specs.Reading.{inDomain};
+ghost use Rattle.changing.specs.Windows.{Unmarked};
 ghost use Rattle.lent.specs.Outcome.{tagSays};
 ghost use Rattle.editing.specs.Rewrote.{rewrote, leavesTag};
 ghost use Rattle.rewriting.specs.Starts.{startSays, startOf};
@@ -54,6 +58,29 @@ pub fn drop_masked_modifications(
     tags::edit_tag(before, after, &no_marks, mm, ml, 0, has_ml, mm_out, ml_out)
 }
 
+// Drops the calls at the places, with a row to mark them in: it comes without a mark and is as long as SEQ or longer.
+fn drop_with(
+    seq: &[u8],
+    places: &[u32],
+    mm: &[u8],
+    ml: &[u8],
+    has_ml: bool,
+    marks: &mut [u8],
+    mm_out: &mut [u8],
+    ml_out: &mut [u8],
+) -> Tagged
+    requires { ⌜ (inDomain «has_ml» (now seq) (now mm) (now ml) ≡ true)
+        × (length (now seq) ≤ length (now marks)) × Unmarked (length (now marks)) (now marks) ⌝ }
+    ensures { λ r. ⌜ rewrote (tagSays r) (now («mm_out» .exit)) (now («ml_out» .exit))
+        ≡ leavesTag «has_ml»
+        (dropFromTag «has_ml» (now (seq .entry)) (now (places .entry)) (now (mm .entry)) (now (ml .entry))
+        (length (now («mm_out» .entry))) (length (now («ml_out» .entry))))
+        (now («mm_out» .entry)) (now («ml_out» .entry)) ⌝ }
+{
+    changing::changes::mark_places(places, marks, 1);
+    tags::edit_tag(seq, seq, marks, mm, ml, 0, has_ml, mm_out, ml_out)
+}
+
 // The calls at the places go, and SEQ stays: their bases still count in later skips. The places may come in any order and more than once; those past
 // SEQ's end do nothing.
 // 1 for what is too long, then 3, 4, .. as the reader with 10 at an entry whose call would go from a group that may lose none, and last 12.
@@ -76,9 +103,12 @@ pub fn drop_modifications_at(
     if !fits {
         return Tagged::Refused(Refusal(1));
     }
+    if seq.len() <= 1024 {
+        let mut few = changing::changes::few_marks();
+        return drop_with(seq, places, mm, ml, has_ml, &mut few, mm_out, ml_out);
+    }
     let mut marks = changing::changes::no_marks();
-    changing::changes::mark_places(places, &mut marks, 1);
-    tags::edit_tag(seq, seq, &marks, mm, ml, 0, has_ml, mm_out, ml_out)
+    drop_with(seq, places, mm, ml, has_ml, &mut marks, mm_out, ml_out)
 }
 
 // Where the window starts: at 0 where nothing was cut off, whatever start is given.

@@ -1,12 +1,12 @@
--- The scope's examples, as one list under one statement, by computation; the session of its program; and a dozen worked values: what SAMtags
--- tells of its own examples, and the smaller definitions.
+-- The session of the scope's program, by computation, and a dozen worked values: what SAMtags tells of its own examples, and the smaller definitions.
+-- The scope's examples beside each edge stand in the crate `edges`.
 -- Assumes nothing.
 use mathlib.Core.Path.{_≡_, refl}
 use Prim.Native.Nat.{ℕ}
 use Prim.Native.String.{String}
 use mathlib.Core.Bool.{true, false}
 use mathlib.Core.List.{List, [], _∷_, map}
-use mathlib.Core.Option.{none, some}
+use mathlib.Core.Option.{none}
 use lib.ListN.{replicate}
 use Rattle.samtags.specs.Bytes.{ascii}
 use Rattle.samtags.specs.Decimal.{digits, value}
@@ -19,7 +19,7 @@ use Rattle.samtags.specs.Edits.{maskTag, dropFromTag, cutTag}
 use Rattle.samtags.specs.Session.{Step, mask, dropCalls, cut, Held, run, answers}
 use Rattle.pattern.specs.declared.ConversionPattern.the-variants.{CToT, GToA}
 use Rattle.pattern.specs.declared.MethylationMode.the-variants.{EmSeq}
-use Rattle.samtags.specs.Building.{Evidence, mlValue, joinedTag}
+use Rattle.samtags.specs.Building.{Evidence, joinedTag}
 
 -- the calls of each group: places and values
 unfoldable pub calls : List ℕ → String → List ℕ → Outcome (List (List Call))
@@ -31,43 +31,6 @@ at p vs = record { place = p; values = vs }
 
 abbrev pub tag : String → List ℕ → Outcome Tag
 tag text ml = done (record { text = ascii text; ml = ml })
-
--- (a) to (j) and (l)
-pub scope-examples :
-    -- (a)
-    (calls (ascii "ACGT") "" [] ≡ refuse 4)
-    -- (b)
-    × (calls (ascii "ACGT") ";" [] ≡ refuse 5)
-    -- (c)
-    × (calls (ascii "ACGT") "C+m?;" [] ≡ done ([] ∷ []))
-    -- (d)
-    × (calls (ascii "CCC") "C+m?,+1;" (7 ∷ []) ≡ refuse 6)
-    -- (e)
-    × (calls (ascii "CCC") "C+m?,2;" (7 ∷ []) ≡ done ((at 2 (7 ∷ []) ∷ []) ∷ []))
-    × (calls (ascii "CCC") "C+m?,3;" (7 ∷ []) ≡ refuse 7)
-    -- (f)
-    × (calls (ascii "C") "C+m?,0;" [] ≡ refuse 8)
-    × (calls (ascii "C") "C+m?,0;" (1 ∷ 2 ∷ []) ≡ refuse 9)
-    × (calls (ascii "C") "C+mh?,0;" (1 ∷ 2 ∷ []) ≡ done ((at 0 (1 ∷ 2 ∷ []) ∷ []) ∷ []))
-    -- (g)
-    × (calls (ascii "C") "C+76792?,0;" (9 ∷ []) ≡ done ((at 0 (9 ∷ []) ∷ []) ∷ []))
-    -- (h)
-    × (dropFromTag true (ascii "C") (0 ∷ []) (ascii "C+m,0;") (7 ∷ []) 100 100 ≡ refuse 10)
-    × (dropFromTag true (ascii "C") (0 ∷ []) (ascii "C+m?,0;") (7 ∷ []) 100 100 ≡ tag "C+m?;" [])
-    -- (i)
-    × (maskTag true (ascii "CCAC") (ascii "CNAC") (ascii "C+m?,0,1;") (7 ∷ 8 ∷ []) 100 100 ≡ tag "C+m?,0,0;" (7 ∷ 8 ∷ []))
-    -- (j)
-    × (mlValue 1 2 ≡ 128)
-    × (mlValue 1 1 ≡ 255)
-    × (mlValue 1 3 ≡ 85)
-    × (mlValue 0 5 ≡ 0)
-    -- (l)
-    × (cutTag true (some 1) (ascii "ACGT") (ascii "CG") (ascii "C+m?,0;") (7 ∷ []) 100 100 ≡ tag "C+m?,0;" (7 ∷ []))
-    × (cutTag true (some 2) (ascii "ACGT") (ascii "CG") (ascii "C+m?,0;") (7 ∷ []) 100 100 ≡ refuse 11)
-    × (cutTag true none (ascii "ACGT") (ascii "CG") (ascii "C+m?,0;") (7 ∷ []) 100 100 ≡ refuse 11)
-unfolding calls dropFromTag maskTag mlValue cutTag
-scope-examples =
-    (refl, refl, refl, refl, refl, refl, refl, refl, refl, refl, refl, refl, refl, refl, refl, refl, refl, refl, refl, refl)
 
 -- the session of the scope's program
 abbrev pub opened : Held

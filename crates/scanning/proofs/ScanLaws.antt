@@ -1,4 +1,4 @@
--- What one call, one group and one value more do to the columns, the counts and the tally of a walk.
+-- What one call and one group more do to the columns and the counts of a walk.
 -- Assumes nothing.
 use mathlib.Core.Path.{_≡_, refl, _∙_, ap, sym}
 use Prim.Native.Nat.{_+_, _<_, _≤_, suc, ℕ}
@@ -7,46 +7,19 @@ use native.Mathlib.Numerals.{add-one}
 use native.Mathlib.Omega.{arith}
 use mathlib.Core.Bool.{Bool}
 use mathlib.Core.List.{List, [], _++_, _∷_, map}
-use lib.ListN.{drop, getD, length, length-append, length-drop, set, take, length-take}
-use lib.Seq.{take-add, getD-drop, sets, take-suc}
-use borrow.Author.Tests.{le-leb, lt-leb}
-use Rattle.lent.proofs.Lists.{filter-append, filter-length}
-use Rattle.lent.specs.Lists.{filter, lastOr}
+use lib.ListN.{drop, length, length-append, set}
+use lib.Seq.{sets}
+use Rattle.lent.specs.Lists.{lastOr}
 use Rattle.lent.specs.Outcome.{Outcome, andThen, done, onDone, refused}
 use Rattle.lent.specs.declared.Refusal.{Refusal}
 use Rattle.samtags.proofs.Read.{calls-bare}
 use Rattle.samtags.specs.Meaning.{next}
-use Rattle.samtags.specs.Reading.{Row, isAbove, rowsFrom, rowsOf, valuesIn, nowhere, readGroup, readSpots, valuesIf, readGroups}
+use Rattle.samtags.specs.Reading.{Row, rowsFrom, rowsOf, valuesIn, nowhere, readGroup, readSpots, valuesIf, readGroups}
 use Rattle.samtags.specs.Spots.{Call, Group, Spot, bare, call, callsIn, listing, tracked}
 use Rattle.samtags.specs.Text.{baseOf, ledBy, upTo, closedBy}
-use Rattle.tagtext.proofs.TextLaws.{group-on, groups-at}
+use Rattle.tagtext.proofs.TextLaws.{calls-none, group-on, groups-at}
 use Rattle.tagtext.specs.Fields.{fieldOf}
-use Rattle.scanning.specs.Scanning.{Columns, Finished, Listed, aboveIn, columns, finished, listedGroup, listedSpots, withRows}
-
--- ---- the tally
-
-above-append : (xs ys : List ℕ) → aboveIn (xs ++ ys) ≡ aboveIn xs + aboveIn ys
-above-append xs ys = rw (filter-append isAbove xs ys) (length-append (filter isAbove xs) (filter isAbove ys))
-
-above-one : (l : List ℕ) (i : ℕ) → i < length l → aboveIn (take (suc i) l) ≡ aboveIn (take i l) + aboveIn (getD l i 0 ∷ [])
-above-one l i h = rw (take-suc l i 0 h) (above-append (take i l) (getD l i 0 ∷ []))
-
-module _ (ml : List ℕ) (from i : ℕ) (h : from + i < length ml) where
-  at-place : aboveIn (take (i + 1) (drop from ml)) ≡ aboveIn (take i (drop from ml)) + aboveIn (getD ml (from + i) 0 ∷ [])
-  at-place = rw (add-one i, ← getD-drop from ml i 0) (above-one (drop from ml) i (omega (arith, length-drop from ml)))
-
-  pub above-more : 128 ≤ getD ml (from + i) 0 → aboveIn (take (i + 1) (drop from ml)) ≡ aboveIn (take i (drop from ml)) + 1
-  above-more b = at-place ∙ rw (le-leb 128 (getD ml (from + i) 0) b)
-
-  pub above-same : getD ml (from + i) 0 < 128 → aboveIn (take (i + 1) (drop from ml)) ≡ aboveIn (take i (drop from ml))
-  above-same b = at-place ∙ rw (lt-leb 128 (getD ml (from + i) 0) b) (omega arith)
-
--- k values more are used
-pub above-used : (ml : List ℕ) (u k : ℕ) → aboveIn (take (u + k) ml) ≡ aboveIn (take u ml) + aboveIn (take k (drop u ml))
-above-used ml u k = rw (take-add u k ml) (above-append (take u ml) (take k (drop u ml)))
-
-pub above-few : (ml : List ℕ) (u : ℕ) → aboveIn (take u ml) ≤ length ml
-above-few ml u = omega (arith, filter-length isAbove (take u ml), length-take u ml)
+use Rattle.scanning.specs.Scanning.{Columns, Finished, Listed, columns, finished, listedGroup, listedSpots, withRows}
 
 -- ---- the columns
 
@@ -67,10 +40,6 @@ rows-append c n (x ∷ xs) ys =
     let q : n + 1 + length xs ≡ n + suc (length xs) = omega arith in
     rows-more c n x (xs ++ ys) ∙ rows-append d (n + 1) xs ys
     ∙ (λ j. withRows (sym (rows-more c n x xs) j) (q j) ys)
-
-calls-none : (ps : List ℕ) → callsIn (map bare ps) ≡ []
-calls-none [] = refl
-calls-none (p ∷ ps) = calls-none ps
 
 module _ (g : ℕ) (c : Columns) (n u : ℕ) where
   -- at the group's end
@@ -107,7 +76,7 @@ module _ (ml? : Bool) (seq t : List ℕ) (at : ℕ) (h : List ℕ) (q : h ≡ fi
       go (refused r) = refl
       go (done r) = refl
 
-rows-count : (g u : ℕ) (cs : List Call) → length (rowsOf g u cs) ≡ length cs
+pub rows-count : (g u : ℕ) (cs : List Call) → length (rowsOf g u cs) ≡ length cs
 rows-count g u [] = refl
 rows-count g u (x ∷ cs) = ap suc (rows-count g (u + length (x .values)) cs)
 

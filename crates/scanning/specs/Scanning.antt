@@ -4,20 +4,15 @@
 use Prim.Native.Nat.{ℕ, suc, _+_, _≤_}
 use mathlib.Core.Path.{_≡_}
 use mathlib.Core.List.{List, map}
-use lib.ListN.{length, take, drop}
+use lib.ListN.{length, drop}
 use lib.Seq.{sets}
-use Rattle.lent.specs.Lists.{filter}
 use Rattle.lent.specs.Outcome.{Outcome, refused, done, onDone}
 use Rattle.samtags.specs.Text.{upTo}
 use Rattle.samtags.specs.Spots.{Spot, Group, Call, callsIn, listing}
-use Rattle.samtags.specs.Reading.{Row, rowsOf, valuesIn, rowsFrom, isAbove}
+use Rattle.samtags.specs.Reading.{Row, rowsOf, valuesIn, rowsFrom}
 use Rattle.scanning.specs.declared.Cursor.{Cursor}
 use Rattle.scanning.specs.declared.Scan.{Scan}
 use Rattle.scanning.specs.declared.Scan.the-variants.{To, Refused}
-
--- how many of the values are above
-abbrev pub aboveIn : List ℕ → ℕ
-aboveIn values = length (filter isAbove values)
 
 pub record Columns : Type 0 where
   pub groups : List ℕ
@@ -70,7 +65,6 @@ abbrev pub EntriesScanned : List ℕ → List ℕ → Cursor → Outcome (List S
 EntriesScanned text ml c o before (Refused r) after = o ≡ refused r
 EntriesScanned text ml c o before (To d) after =
     (d .at ≡ c .at + length (upTo 59 (drop (c .at) text))) × (d .used ≤ length ml) × (d .group ≡ c .group) × (d .calls ≤ d .at)
-    × (d .above ≡ aboveIn (take (d .used) ml))
     × (onDone (listedSpots (c .group) before (c .calls) (c .used)) o ≡ done (record { rows = after; calls = d .calls; used = d .used }, drop (d .used) ml))
 
 -- o is what the answer says of the group at c
@@ -78,11 +72,9 @@ abbrev pub GroupScanned : List ℕ → List ℕ → Cursor → Outcome (Group ×
 GroupScanned text ml c o before (Refused r) after = o ≡ refused r
 GroupScanned text ml c o before (To d) after =
     (d .at ≡ c .at + length (upTo 59 (drop (c .at) text)) + 1) × (d .used ≤ length ml) × (d .group ≡ c .group + 1) × (d .calls ≤ d .at)
-    × (d .above ≡ aboveIn (take (d .used) ml))
     × (onDone (listedGroup (c .group + 1) before (c .calls) (c .used)) o ≡ done (record { rows = after; calls = d .calls; used = d .used }, drop (d .used) ml))
 
 -- o is what the answer says of all groups
-abbrev pub TagScanned : List ℕ → Outcome (List Group) → Columns → Scan → Columns → Type 0
-TagScanned ml o before (Refused r) after = o ≡ refused r
-TagScanned ml o before (To d) after =
-    (onDone (finished 0 before 0 0) o ≡ done (record { rows = after; groups = d .group; calls = d .calls })) × (d .above ≡ aboveIn ml)
+abbrev pub TagScanned : Outcome (List Group) → Columns → Scan → Columns → Type 0
+TagScanned o before (Refused r) after = o ≡ refused r
+TagScanned o before (To d) after = onDone (finished 0 before 0 0) o ≡ done (record { rows = after; groups = d .group; calls = d .calls })

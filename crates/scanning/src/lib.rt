@@ -1,9 +1,8 @@
-// One walk over a tag from the left, which answers, counts, lists the calls and tallies their values. The columns are written as far as they reach, so
-// that the same walk over empty columns measures, and over the caller's own, once the list is known to fit, writes.
+// One walk over a tag from the left, which answers, counts and lists the calls. The columns are written as far as they reach, so nothing is asked of them.
 ghost use mathlib.Core.Path.{_≡_};
 ghost use mathlib.Core.Bool.{cond};
 ghost use Prim.Native.Nat.{_+_, _≤_, _<_};
-ghost use lib.ListN.{length, take, drop, set};
+ghost use lib.ListN.{length, drop, set};
 ghost use Rattle.lent.specs.Lists.{lastOr};
 ghost use Rattle.samtags.specs.Bytes.{comma, semicolon};
 ghost use Rattle.samtags.specs.Text.{upTo, ledBy, closedBy};
@@ -11,7 +10,7 @@ ghost use Rattle.samtags.specs.Spots.{tracked};
 ghost use Rattle.samtags.specs.Reading.{nowhere, readSpots, readGroup, readGroups};
 ghost use Rattle.tagtext.specs.Fields.{fieldOf};
 ghost use Rattle.scanning.specs.Answers.{scanRefusal};
-ghost use Rattle.scanning.specs.Scanning.{columns, aboveIn, EntriesScanned, GroupScanned, TagScanned};
+ghost use Rattle.scanning.specs.Scanning.{columns, EntriesScanned, GroupScanned, TagScanned};
 use lent::Refusal;
 use tagtext::fields;
 use tagtext::headers;
@@ -19,14 +18,12 @@ use tagtext::places::Entry;
 use tagtext::places::Place;
 use tagtext::places::find_entry;
 
-// Where a walk stands: the byte of the text and the value of ML that come next, how many groups and calls were passed, and how many of the
-// values that were passed are above.
+// Where a walk stands: the byte of the text and the value of ML that come next, and how many groups and calls were passed.
 pub struct Cursor {
     pub at: usize,
     pub used: usize,
     pub group: usize,
     pub calls: usize,
-    pub above: usize,
 }
 
 pub enum Scan {
@@ -75,22 +72,6 @@ fn list_call(
     put(starts, n, start as u32);
 }
 
-// How many of the n values from a place of ML on are above.
-fn count_above(ml: &[u8], from: usize, n: usize) -> usize
-    requires { ⌜ from + n ≤ length (now ml) ⌝ }
-    ensures { λ r. ⌜ r ≡ aboveIn (take n (drop from (now (ml .entry)))) ⌝ }
-{
-    let mut above: usize = 0;
-    let mut i = 0;
-    while i < n {
-        if 128 <= ml[from + i] {
-            above += 1;
-        }
-        i += 1;
-    }
-    above
-}
-
 // A group's entries, from the separator at the cursor on, up to the ';' that closes the group.
 fn scan_entries(
     seq: &[u8],
@@ -106,8 +87,7 @@ fn scan_entries(
     requires { ⌜ (length (now seq) ≤ 16000) × (length (now text) ≤ 65536) × (length (now ml) ≤ 65536) ⌝ }
     requires { ⌜ start .at + length (upTo semicolon (drop (start .at) (now text))) < length (now text) ⌝ }
     requires { ⌜ length (fieldOf (drop (start .at) (now text))) ≡ 0 ⌝ }
-    requires { ⌜ (start .used ≤ length (now ml)) × (start .group ≤ start .at) × (start .calls ≤ start .at)
-        × (start .above ≡ aboveIn (take (start .used) (now ml))) ⌝ }
+    requires { ⌜ (start .used ≤ length (now ml)) × (start .group ≤ start .at) × (start .calls ≤ start .at) ⌝ }
     ensures { λ r.
         ⌜ EntriesScanned (now (text .entry)) (now (ml .entry)) start
         (readSpots values nowhere (ledBy comma (upTo semicolon (drop (start .at) (now (text .entry))))) (tracked base (now (seq .entry)))
@@ -119,7 +99,6 @@ fn scan_entries(
     let mut at = start.at;
     let mut used = start.used;
     let mut calls = start.calls;
-    let mut above = start.above;
     let mut from = Place(0);
     while text[at] == b',' {
         let field = fields::next_field(text, at + 1);
@@ -131,7 +110,6 @@ fn scan_entries(
             return Scan::Refused(Refusal(8));
         }
         list_call(groups, places, starts, calls, start.group, place, used);
-        above = above + count_above(ml, used, values);
         from = Place(place.0 + 1);
         used = used + values;
         calls = calls + 1;
@@ -142,7 +120,6 @@ fn scan_entries(
         used: used,
         group: start.group,
         calls: calls,
-        above: above,
     })
 }
 
@@ -159,8 +136,7 @@ fn scan_group(
 ) -> Scan
     requires { ⌜ (length (now seq) ≤ 16000) × (length (now text) ≤ 65536) × (length (now ml) ≤ 65536) ⌝ }
     requires { ⌜ start .at + length (upTo semicolon (drop (start .at) (now text))) < length (now text) ⌝ }
-    requires { ⌜ (start .used ≤ length (now ml)) × (start .group ≤ start .at) × (start .calls ≤ start .at)
-        × (start .above ≡ aboveIn (take (start .used) (now ml))) ⌝ }
+    requires { ⌜ (start .used ≤ length (now ml)) × (start .group ≤ start .at) × (start .calls ≤ start .at) ⌝ }
     ensures { λ r.
         ⌜ GroupScanned (now (text .entry)) (now (ml .entry)) start
         (readGroup «has_ml» nowhere (now (seq .entry)) (upTo semicolon (drop (start .at) (now (text .entry)))) (drop (start .used) (now (ml .entry))))
@@ -180,7 +156,6 @@ fn scan_group(
         used: start.used,
         group: start.group + 1,
         calls: start.calls,
-        above: start.above,
     };
     let scanned = scan_entries(seq, text, ml, base, values, entries, groups, places, starts);
     let Scan::To(end) = scanned else {
@@ -191,7 +166,6 @@ fn scan_group(
         used: end.used,
         group: end.group,
         calls: end.calls,
-        above: end.above,
     })
 }
 
@@ -207,7 +181,7 @@ pub fn scan_groups(
 ) -> Scan
     requires { ⌜ (length (now seq) ≤ 16000) × (length (now text) ≤ 65536) × (length (now ml) ≤ 65536) × (lastOr 0 (now text) ≡ semicolon) ⌝ }
     ensures { λ r.
-        ⌜ TagScanned (now (ml .entry))
+        ⌜ TagScanned
         (readGroups «has_ml» nowhere (now (seq .entry)) (closedBy semicolon (now (text .entry))) (now (ml .entry)))
         (columns (now (groups .entry)) (now (places .entry)) (now (starts .entry)))
         r
@@ -218,7 +192,6 @@ pub fn scan_groups(
         used: 0,
         group: 0,
         calls: 0,
-        above: 0,
     };
     while c.at < text.len() {
         let scanned = scan_group(seq, text, ml, has_ml, c, groups, places, starts);

@@ -148,7 +148,7 @@ fn pass_place(
         × (now (text .exit) ≡ sets (now (text .entry)) (pen .text) (entriesText (skipsFrom (pen .skip) here)))
         × (now (ml .exit) ≡ sets (now (ml .entry)) (pen .values) (concatMap valuesOf here))) ⌝ }
 {
-    let same = pattern::eq_ignore_ascii_case(pattern.letter(), seq[place]);
+    let same = pattern::eq_ignore_ascii_case(seq[place], pattern.letter());
     if !same {
         return pen;
     }

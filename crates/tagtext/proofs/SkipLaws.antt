@@ -6,7 +6,7 @@ use native.Mathlib.Omega.{arith}
 use mathlib.Core.Bool.{false, true}
 use mathlib.Core.List.{List, [], _++_, _∷_}
 use lib.Dec.{ltb}
-use lib.ListN.{drop, drop-of-length-le, getD, length, set}
+use lib.ListN.{length-append, drop, drop-of-length-le, getD, length, set}
 use lib.Seq.{sets}
 use borrow.Author.Tests.{le-leb, le-ltb, lt-leb, lt-ltb, ltb-false}
 use Rattle.lent.proofs.Lists.{drop-here}
@@ -73,6 +73,12 @@ pub digits-more : (n : ℕ) → 10 ≤ n → digits n ≡ digits (n / 10) ++ (48
 unfolding digits digitsIn
 digits-more zero h = absurd (omega arith)
 digits-more (suc n) h = rw (le-ltb (suc n) 10 h, digits-enough n (suc n / 10) (suc n / 10) (omega arith) (omega arith))
+
+pub length-small : (n : ℕ) → n < 10 → length (digits n) ≡ 1
+length-small n h = rw (digits-small n h)
+
+pub length-more : (n : ℕ) → 10 ≤ n → length (digits n) ≡ length (digits (n / 10)) + 1
+length-more n h = rw (digits-more n h) (simp length-append)
 
 -- a run of stores, and one more where it ends
 pub sets-snoc : {A : Type 0} (l : List A) (i : ℕ) (vs : List A) (v : A) (k : ℕ) → k ≡ i + length vs → set (sets l i vs) k v ≡ sets l i (vs ++ v ∷ [])

@@ -20,7 +20,7 @@ use Rattle.lent.specs.declared.Refusal.{Refusal}
 use Rattle.samtags.specs.Bytes.{comma}
 use Rattle.samtags.specs.Decimal.{isNumber, value}
 use Rattle.samtags.specs.Reading.{deniedTo, readEntry, readGroup, readGroups, readSpots, valuesIf}
-use Rattle.samtags.specs.Spots.{bare, holds, placesFrom, tracked, call}
+use Rattle.samtags.specs.Spots.{bare, call, callsIn, holds, placesFrom, tracked}
 use Rattle.samtags.specs.Text.{baseOf, closedBy, ledBy, upTo}
 use Rattle.tagtext.proofs.FieldLaws.{field-on, last-at}
 use Rattle.tagtext.specs.Fields.{fieldOf}
@@ -180,6 +180,11 @@ pub turn-end : (k : ℕ) (denied : ℕ → Bool) (t : List ℕ) (at : ℕ) → a
     → readSpots k denied (ledBy 44 (upTo 59 (drop at t))) places ml ≡ done (map bare places, ml)
 unfolding readSpots
 turn-end k denied t at l h places ml = rw (led-semicolon t at l h)
+
+-- bare spots are no calls
+pub calls-none : (ps : List ℕ) → callsIn (map bare ps) ≡ []
+calls-none [] = refl
+calls-none (p ∷ ps) = calls-none ps
 
 -- ---- one group: the one that begins at `at`, whose header is h
 

@@ -1,15 +1,15 @@
 -- The bases of a kind from a place of SEQ on, as a walk comes to them; and an entry, by what its parts answer.
 -- Assumes nothing.
-use mathlib.Core.Path.{_≡_, _∙_, sym, refl}
-use Prim.Native.Nat.{_+_, _<_, _≤_, min, suc, ℕ}
+use mathlib.Core.Path.{_≡_, _∙_, ap, sym, refl}
+use Prim.Native.Nat.{_+_, _-_, _<_, _≤_, min, suc, ℕ}
 use native.Mathlib.Numerals.{add-one}
 use native.Mathlib.Omega.{arith}
 use mathlib.Core.Bool.{Bool, false, true}
-use mathlib.Core.List.{List, [], _∷_}
+use mathlib.Core.List.{List, [], _∷_, _++_}
 use mathlib.Core.Option.{none, some}
 use lib.Dec.{leb}
 use lib.ListN.{drop, drop-of-length-le, getD, length, length-drop}
-use lib.Seq.{drop-nil}
+use lib.Seq.{drop-append-add, drop-nil}
 use borrow.Author.Tests.{leb-false, leb-true}
 use Rattle.lent.proofs.Lists.{drop-here}
 use Rattle.lent.proofs.Outcome.{done-inj, need-rest, need-test}
@@ -19,6 +19,8 @@ use Rattle.lent.specs.declared.Refusal.{Refusal}
 use Rattle.samtags.proofs.Places.{places-length}
 use Rattle.samtags.specs.Decimal.{isNumber, value}
 use Rattle.samtags.specs.Spots.{holds, placesFrom}
+use Rattle.strides.proofs.StrideLaws.{between-rest}
+use Rattle.strides.specs.Counts.{between}
 use Rattle.tagtext.specs.Walk.{trackedFrom, entryAt, firstOf}
 
 module _ (b : ℕ) (s : List ℕ) (i : ℕ) where
@@ -43,6 +45,17 @@ module _ (b : ℕ) (s : List ℕ) (i : ℕ) where
 
   pub found-miss : (n : ℕ) → i < length s → holds b (getD s i 0) ≡ false → drop n (trackedFrom b i s) ≡ drop n (trackedFrom b (i + 1) s)
   found-miss n l h = rw (tracked-miss l h)
+
+-- ---- behind a part of SEQ that was passed as a whole
+
+pub behind-passed : (b : ℕ) (seq : List ℕ) (from place n passed : ℕ) → from ≤ place → place ≤ length seq → passed ≤ n → passed ≡ length (between b seq from place)
+    → drop n (trackedFrom b from seq) ≡ drop (n - passed) (trackedFrom b place seq)
+unfolding trackedFrom
+behind-passed b seq from place n passed l u few e =
+    let sum : n ≡ length (between b seq from place) + (n - passed) = omega arith in
+    ap (drop n) (between-rest b seq from place l u)
+    ∙ ap (λ (k : ℕ). drop k (between b seq from place ++ trackedFrom b place seq)) sum
+    ∙ drop-append-add (between b seq from place) (trackedFrom b place seq) (n - passed)
 
 -- ---- a bounded skip passes what the skip passes
 

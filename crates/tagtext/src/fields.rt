@@ -25,18 +25,19 @@ pub fn next_field(text: &[u8], from: usize) -> &[u8]
     &text[from..end]
 }
 
-// No byte is above 127.
+// No byte is above 127. It looks at all of them, which takes less than to stop at the first one: sixteen are looked at in one step.
 pub fn all_ascii(text: &[u8]) -> bool
     ensures { λ r. ⌜ r ≡ every isAscii (now (text .entry)) ⌝ }
 {
+    let mut ascii = true;
     let mut i = 0;
     while i < text.len() {
         if 127 < text[i] {
-            return false;
+            ascii = false;
         }
         i += 1;
     }
-    true
+    ascii
 }
 
 // The text's last group is closed.

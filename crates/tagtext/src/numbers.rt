@@ -71,8 +71,8 @@ pub fn put(out: &mut [u8], at: usize, b: u8)
     }
 }
 
-// Writes n in decimal from a place on, as far as the room reaches, and gives the place after it.
-pub fn put_decimal(out: &mut [u8], at: usize, n: usize) -> usize
+// Writes the digits of n from a place on, as far as the room reaches, and gives the place after them.
+fn put_digits(out: &mut [u8], at: usize, n: usize) -> usize
     requires { ⌜ at ≤ 4294967296 ⌝ }
     ensures { λ r. ⌜ (r ≡ at + length (digits n)) × (now (out .exit) ≡ sets (now (out .entry)) at (digits n)) ⌝ }
 {
@@ -80,7 +80,19 @@ pub fn put_decimal(out: &mut [u8], at: usize, n: usize) -> usize
         put(out, at, b'0' + n as u8);
         return at + 1;
     }
-    let next = put_decimal(out, at, n / 10);
+    let next = put_digits(out, at, n / 10);
     put(out, next, b'0' + (n % 10) as u8);
     next + 1
+}
+
+// Writes n in decimal from a place on, as far as the room reaches, and gives the place after it. Most skips have one digit, for which no call is made.
+pub fn put_decimal(out: &mut [u8], at: usize, n: usize) -> usize
+    requires { ⌜ at ≤ 4294967296 ⌝ }
+    ensures { λ r. ⌜ (r ≡ at + length (digits n)) × (now (out .exit) ≡ sets (now (out .entry)) at (digits n)) ⌝ }
+{
+    if 9 < n {
+        return put_digits(out, at, n);
+    }
+    put(out, at, b'0' + n as u8);
+    at + 1
 }

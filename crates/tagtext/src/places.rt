@@ -2,12 +2,13 @@
 ghost use mathlib.Core.Path.{_≡_};
 ghost use Prim.Native.Nat.{_≤_};
 ghost use lib.ListN.{length, drop};
-ghost use Rattle.samtags.specs.Spots.{holds};
+ghost use Rattle.strides.specs.Counts.{between};
 ghost use Rattle.tagtext.specs.Answers.{foundSays, entrySays, entryRefusal};
 ghost use Rattle.tagtext.specs.Walk.{firstOf, trackedFrom, entryAt};
 use crate::numbers;
 use crate::numbers::Skip;
 use lent::Refusal;
+use strides::Stride;
 
 // How many of the group's bases were passed.
 pub struct Ordinal(pub usize);
@@ -20,23 +21,33 @@ pub enum Found {
     Nothing,
 }
 
-// A byte of SEQ counts for the base: every byte where the base is 'N', else the base itself.
-pub fn counts(base: u8, b: u8) -> bool
-    ensures { λ r. ⌜ r ≡ holds base b ⌝ }
+// Where a walk may begin: behind whole blocks, if there are more than a few bases to pass. Where every base counts, none is looked at.
+fn ahead(seq: &[u8], base: u8, from: usize, skip: usize) -> Stride
+    requires { ⌜ (from ≤ length (now seq)) × (length (now seq) ≤ 16000) ⌝ }
+    ensures { λ r. ⌜ (from ≤ r .place) × (r .place ≤ length (now (seq .entry))) × (r .passed ≤ skip)
+        × (r .passed ≡ length (between base (now (seq .entry)) from (r .place))) ⌝ }
 {
-    base == b'N' || b == base
+    if skip < 6 || base == b'N' {
+        return Stride {
+            place: from,
+            passed: 0,
+            held: 0,
+        };
+    }
+    strides::pass_blocks(seq, seq, 0, base, from, skip)
 }
 
 // From a place on, passes `skip` of the group's bases and gives the place of the next.
 pub fn next_tracked(seq: &[u8], base: u8, from: Place, skip: Ordinal) -> Found
-    requires { ⌜ from .0 ≤ length (now seq) ⌝ }
+    requires { ⌜ (from .0 ≤ length (now seq)) × (length (now seq) ≤ 16000) ⌝ }
     ensures { λ r. ⌜ foundSays r ≡ firstOf (drop (skip .0) (trackedFrom base (from .0) (now (seq .entry)))) ⌝ }
 {
-    let mut ordinal = Ordinal(0);
-    let mut pos = from;
+    let start = ahead(seq, base, from.0, skip.0);
+    let mut ordinal = Ordinal(start.passed);
+    let mut pos = Place(start.place);
     while pos.0 < seq.len() {
         let at = pos.0;
-        let hit = counts(base, seq[at]);
+        let hit = strides::counts(base, seq[at]);
         if hit {
             if ordinal.0 == skip.0 {
                 return Found::At(pos);

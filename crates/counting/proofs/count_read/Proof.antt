@@ -6,13 +6,11 @@ use mathlib.Core.List.{List}
 use Prim.Native.Nat.{ℕ, _≤_, _-_}
 use native.Mathlib.Omega.{arith}
 use borrow.Author.Needs.{needs}
-use lib.ListN.{length, getD, length-set}
+use lib.ListN.{length, getD}
 use Rattle.lent.proofs.InPlace.{changedUpTo}
 use Rattle.pattern.specs.Patterns.{basesOf}
-use Rattle.columns.specs.Columns.{isYes}
 use Rattle.counting.specs.Reads.{Read}
-use Rattle.counting.specs.Counting.{countedThere, countAfter}
-use Rattle.evidence.specs.declared.MethylationEvidence.{MethylationEvidence}
+use Rattle.counting.specs.Counting.{countAfter}
 use Rattle.lent.proofs.Tabulate.{changed-turn}
 use Rattle.counting.proofs.Counted.{there-unconverted, there-converted, read-added}
 use Rattle.counting.proofs.count_read.Statement.{statement}
@@ -37,41 +35,17 @@ smaller-requires c κs = search needs
 loop-holds : tie.Need-loop-holds Inv-loop μ-loop
 loop-holds c = (omega arith, refl, refl, refl, refl)
 
-shared-slice-read-t16 : tie.Need-shared-slice-read-t16 Inv-loop μ-loop
-shared-slice-read-t16 c = omega arith
+shared-slice-read-count-base : tie.Need-shared-slice-read-count-base Inv-loop μ-loop
+shared-slice-read-count-base c = omega arith
 
-mul-t17 : tie.Need-mul-t17 Inv-loop μ-loop
-mul-t17 c = omega arith
+shared-slice-read-count-base-2 : tie.Need-shared-slice-read-count-base-2 Inv-loop μ-loop
+shared-slice-read-count-base-2 c = omega arith
 
-slice-read-t19 : tie.Need-slice-read-t19 Inv-loop μ-loop
-slice-read-t19 c = omega arith
+shared-slice-read-count-base-3 : tie.Need-shared-slice-read-count-base-3 Inv-loop μ-loop
+shared-slice-read-count-base-3 c = omega arith
 
-mul-t20 : tie.Need-mul-t20 Inv-loop μ-loop
-mul-t20 c = omega arith
-
-slice-read-t22 : tie.Need-slice-read-t22 Inv-loop μ-loop
-slice-read-t22 c = omega arith
-
-shared-slice-read-counted-there : tie.Need-shared-slice-read-counted-there Inv-loop μ-loop
-shared-slice-read-counted-there c = omega arith
-
-shared-slice-read-counted-there-2 : tie.Need-shared-slice-read-counted-there-2 Inv-loop μ-loop
-shared-slice-read-counted-there-2 c = omega arith
-
-counted-there-requires : tie.Need-counted-there-requires Inv-loop μ-loop
-counted-there-requires c κs = search needs
-
-mul-unconverted : tie.Need-mul-unconverted Inv-loop μ-loop
-mul-unconverted c = omega arith
-
-slice-write-unconverted : tie.Need-slice-write-unconverted Inv-loop μ-loop
-slice-write-unconverted c = omega arith
-
-mul-converted : tie.Need-mul-converted Inv-loop μ-loop
-mul-converted c = omega arith
-
-slice-write-converted : tie.Need-slice-write-converted Inv-loop μ-loop
-slice-write-converted c = omega arith
+count-base-requires : tie.Need-count-base-requires Inv-loop μ-loop
+count-base-requires c κs = omega arith
 
 add-i : tie.Need-add-i Inv-loop μ-loop
 add-i c = omega arith
@@ -81,7 +55,8 @@ loop-less c = omega arith
 
 loop-again : tie.Need-loop-again Inv-loop μ-loop
 loop-again c =
-    let h = c .before .before .before .before .before .before .before in
+    let call = c .before .before .before .before in
+    let h = call .before .before .before .before .before .before .before in
     let a = h .before .before .before .before .before .before .before .args in
     let p = a .pattern in
     let all? = a .count-all-positions in
@@ -89,18 +64,16 @@ loop-again c =
     let unc = h .loop .unconverted in
     let con = h .loop .converted in
     let i = h .loop .i in
-    let r : Read = record { bases = a .bases .now; aligned = a .aligned .now } in
-    let e : MethylationEvidence = record { informative = isYes (getD inf i 0); unconverted = getD unc i 0; converted = getD con i 0 } in
-    let made : c .counted-there .result ≡ countedThere all? e (getD (r .bases) i 0) (getD (r .aligned) i 0) p = c .counted-there .ensures in (
+    let r : Read = record { bases = a .bases .now; aligned = a .aligned .now } in (
       omega arith,
-      simp length-set (omega arith),
-      simp length-set (omega arith),
-      changed-turn (countAfter (basesOf p .unconverted) all? inf r) 0 (a .unconverted .now) unc i (c .counted-there .result .unconverted)
-          (h .loop .inv .3) (omega arith)
-          (rw made (there-unconverted all? e p inf r i (omega arith) refl)),
-      changed-turn (countAfter (basesOf p .converted) all? inf r) 0 (a .converted .now) con i (c .counted-there .result .converted)
-          (h .loop .inv .4) (omega arith)
-          (rw made (there-converted all? e p inf r i (omega arith) refl)),
+      omega (arith, call .count-base .kept .1 .1 .1 .1 .1 .1 .0),
+      omega (arith, call .count-base .kept .1 .1 .1 .1 .1 .1 .1 .0),
+      rw (call .count-base .ensures .0)
+          (changed-turn (countAfter (basesOf p .unconverted) all? inf r) 0 (a .unconverted .now) unc i _ (h .loop .inv .3) (omega arith)
+          (there-unconverted all? p inf r i (getD unc i 0) (getD con i 0) (omega arith))),
+      rw (call .count-base .ensures .1)
+          (changed-turn (countAfter (basesOf p .converted) all? inf r) 0 (a .converted .now) con i _ (h .loop .inv .4) (omega arith)
+          (there-converted all? p inf r i (getD unc i 0) (getD con i 0) (omega arith))),
     )
 
 same-length : tie.Need-same-length Inv-loop μ-loop
@@ -128,18 +101,10 @@ count-read-spec =
     μ-loop
     smaller-requires
     loop-holds
-    shared-slice-read-t16
-    mul-t17
-    slice-read-t19
-    mul-t20
-    slice-read-t22
-    shared-slice-read-counted-there
-    shared-slice-read-counted-there-2
-    counted-there-requires
-    mul-unconverted
-    slice-write-unconverted
-    mul-converted
-    slice-write-converted
+    shared-slice-read-count-base
+    shared-slice-read-count-base-2
+    shared-slice-read-count-base-3
+    count-base-requires
     add-i
     loop-less
     loop-again

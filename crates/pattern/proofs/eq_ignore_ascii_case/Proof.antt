@@ -1,20 +1,24 @@
--- `eq_ignore_ascii_case` compares the two bytes in upper case.
+-- `eq_ignore_ascii_case`: a byte that is no letter is the same as itself alone; a letter as each byte that differs from it in its case at most.
 -- Assumes nothing.
-use borrow.Author.Needs.{needs}
-use Rattle.pattern.specs.Case.{sameInAnyCase}
+use native.Mathlib.Omega.{arith}
+use Rattle.pattern.proofs.Cases.{same-below, same-letter, same-past}
 use Rattle.pattern.proofs.eq_ignore_ascii_case.Statement.{statement}
 use Rattle.pattern.proofs.eq_ignore_ascii_case.Tie as tie
 
-to-ascii-uppercase-requires : tie.Need-to-ascii-uppercase-requires
-to-ascii-uppercase-requires c κs = search needs
-
-to-ascii-uppercase-requires-2 : tie.Need-to-ascii-uppercase-requires-2
-to-ascii-uppercase-requires-2 c κs = search needs
-
 returns : tie.Need-returns
-unfolding sameInAnyCase
-returns c = rw (c .to-ascii-uppercase2 .ensures, c .before .to-ascii-uppercase .ensures)
+returns c =
+    let a = c .before .args in
+    same-below (a .a) (a .b) (omega arith) (omega arith)
+
+returns-2 : tie.Need-returns-2
+returns-2 c =
+    let a = c .before .before .args in
+    same-past (a .a) (a .b) (omega arith) (omega arith)
+
+returns-3 : tie.Need-returns-3
+returns-3 c =
+    let a = c .before .before .args in
+    same-letter (a .a) (a .b) (omega arith) (omega arith) (omega arith) (omega arith)
 
 pub eq-ignore-ascii-case-spec : {M : Type 1} → statement M
-eq-ignore-ascii-case-spec =
-    tie.close (tie.spec to-ascii-uppercase-requires to-ascii-uppercase-requires-2 returns)
+eq-ignore-ascii-case-spec = tie.close (tie.spec returns returns-2 returns-3)

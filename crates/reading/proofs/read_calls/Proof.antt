@@ -4,7 +4,7 @@ use mathlib.Core.Path.{_∙_, _≡_, ap, subst, sym}
 use Prim.Native.Nat.{_-_, ℕ}
 use native.Mathlib.Omega.{arith}
 use mathlib.Core.Bool.{cond}
-use mathlib.Core.List.{List, [], map}
+use mathlib.Core.List.{List, map}
 use lib.ListN.{length, length-take}
 use borrow.Author.Needs.{needs}
 use Rattle.lent.specs.Outcome.{done, refused}
@@ -12,25 +12,24 @@ use Rattle.lent.specs.declared.Refusal.{Refusal}
 use Rattle.samtags.specs.Reading.{callList, nowhere, readGroups, readTag}
 use Rattle.samtags.specs.Spots.{Group, listing}
 use Rattle.samtags.specs.Text.{closedBy}
-use Rattle.reading.proofs.AnswerLaws.{calls-done, calls-refused, scanned-rows, short-groups, short-places, short-starts, tag-known, tag-refused}
+use Rattle.reading.proofs.AnswerLaws.{calls-done, calls-refused, refused-with, scanned-rows, short-groups, short-places, short-starts, tag-known, tag-refused}
 use Rattle.lent.proofs.Tests.{cond-at-most}
 use Rattle.samtags.proofs.Taken.{taken-is}
 use Rattle.reading.proofs.CheckLaws.{passed, tested}
 use Rattle.reading.proofs.read_calls.Statement.{statement}
 use Rattle.reading.specs.Calls.{callsRead, countsOf}
 use Rattle.reading.specs.Measured.{TagMeasured}
-use Rattle.scanning.specs.Answers.{scanRefusal}
 use Rattle.scanning.specs.Scanning.{TagScanned, columns}
-use Rattle.scanning.specs.declared.Scan.{Scan}
+use Rattle.measuring.specs.declared.Counted.{Counted}
 use Rattle.reading.proofs.read_calls.Tie as tie
 
 -- what the first walk's contract says of its answer r
-walked : (w : tie.After-measure) (r : Scan) → w .measure .result ≡ r →
+walked : (w : tie.After-measure) (r : Counted) → w .measure .result ≡ r →
     let a = w .before .before .before .before .before .before .before .args in
-    TagMeasured (cond (a .has-ml) (a .ml .now) []) (tested (a .has-ml) (a .seq .now) (a .mm .now) (a .ml .now)) r
+    TagMeasured (tested (a .has-ml) (a .seq .now) (a .mm .now) (a .ml .now)) r
 walked w r e =
     let a = w .before .before .before .before .before .before .before .args in
-    subst (TagMeasured (cond (a .has-ml) (a .ml .now) []) (tested (a .has-ml) (a .seq .now) (a .mm .now) (a .ml .now))) e (w .measure .ensures)
+    subst (TagMeasured (tested (a .has-ml) (a .seq .now) (a .mm .now) (a .ml .now))) e (w .measure .ensures)
 
 -- the groups of a tag that it accepts
 known : (k : tie.After-known-told) →
@@ -41,7 +40,7 @@ known : (k : tie.After-known-told) →
 known k =
     let a = k .before .before .before .before .before .before .before .before .before .before .args in
     let g = k .before .measured .given in
-    tag-known (a .has-ml) (a .seq .now) (a .mm .now) (a .ml .now) (g .0 .0 .group) (g .0 .0 .calls) (walked (k .before .before .before) _ (g .1) .0)
+    tag-known (a .has-ml) (a .seq .now) (a .mm .now) (a .ml .now) (g .0 .0 .group) (g .0 .0 .calls) (walked (k .before .before .before) _ (g .1))
 
 -- as many calls as it counted
 count : (k : tie.After-known-told) → length (callList (map listing (known k .0))) ≡ k .before .measured .given .0 .0 .calls
@@ -53,19 +52,17 @@ measure-requires c κs = search needs
 enum-known-measured : tie.Need-enum-known-measured
 enum-known-measured c = search needs
 
-enum-told : tie.Need-enum-told
-enum-told c = search needs
-
 refusal-requires : tie.Need-refusal-requires
 refusal-requires c κs = search needs
 
 returns : tie.Need-returns
 returns c =
-    let a = c .before .before .before .before .before .before .before .before .before .before .args in
-    let g = c .before .enum-told .given in
-    ap (λ (r : Refusal). callsRead (refused r) (a .groups .now) (a .places .now) (a .starts .now)) (c .refusal .ensures ∙ ap scanRefusal (g .1))
-    ∙ sym (calls-refused (a .has-ml) (a .seq .now) (a .mm .now) (a .ml .now) (a .groups .now) (a .places .now) (a .starts .now) (g .0 .0)
-    (tag-refused (a .has-ml) (a .seq .now) (a .mm .now) (a .ml .now) (g .0 .0) (walked (c .before .before .before) _ (g .1))))
+    let w = c .before .before in
+    let a = w .before .before .before .before .before .before .before .args in
+    ap (λ (r : Refusal). callsRead (refused r) (a .groups .now) (a .places .now) (a .starts .now)) (c .refusal .ensures)
+    ∙ sym (calls-refused (a .has-ml) (a .seq .now) (a .mm .now) (a .ml .now) (a .groups .now) (a .places .now) (a .starts .now) _
+    (tag-refused (a .has-ml) (a .seq .now) (a .mm .now) (a .ml .now) _
+    (refused-with _ (w .measure .result) (c .before .match .keys2) (w .measure .ensures))))
 
 returns-2 : tie.Need-returns-2
 returns-2 c =
@@ -143,14 +140,14 @@ returns-5 c =
     let r = s .scan-groups .result in
     let before = columns (a .groups .now) (a .places .now) (a .starts .now) in
     let all : v .values-taken .result - 0 ≡ cond (a .has-ml) (length (a .ml .now)) 0 = omega (arith, v .values-taken .ensures) in
-    let second = subst (λ (m : List ℕ). TagScanned m (readGroups (a .has-ml) nowhere (a .seq .now) (closedBy 59 (a .mm .now)) m) before r
+    let second = subst (λ (m : List ℕ). TagScanned (readGroups (a .has-ml) nowhere (a .seq .now) (closedBy 59 (a .mm .now)) m) before r
     (columns (l .0) (l .1 .0) (l .1 .1 .0)))
     (taken-is (a .has-ml) (a .ml .now) (v .values-taken .result - 0) all) (s .scan-groups .ensures) in
     ap (λ (n : ℕ × ℕ). callsRead (done n) (l .0) (l .1 .0) (l .1 .1 .0)) (sym (w .3))
     ∙ sym (calls-done (a .has-ml) (a .seq .now) (a .mm .now) (a .ml .now) (a .groups .now) (a .places .now) (a .starts .now) (map listing (w .0))
     (w .2) _ (count k)
     (omega arith) (omega arith) (omega arith) (l .0) (l .1 .0) (l .1 .1 .0)
-    (scanned-rows _ _ before r (columns (l .0) (l .1 .0) (l .1 .1 .0)) (w .0) (p .groups) second))
+    (scanned-rows _ before r (columns (l .0) (l .1 .0) (l .1 .1 .0)) (w .0) (p .groups) second))
 
 pub read-calls-spec : {M : Type 1} → statement M
 read-calls-spec =
@@ -158,7 +155,6 @@ read-calls-spec =
     (tie.spec
     measure-requires
     enum-known-measured
-    enum-told
     refusal-requires
     returns
     returns-2

@@ -1,31 +1,22 @@
--- `drop_modifications_at`: 1, and then the edit over all of SEQ, with the places marked.
+-- `drop_modifications_at`: 1, and then the drop with a row for the marks, the short one or the long one.
 -- Assumes nothing.
-use mathlib.Core.Path.{_∙_, _≡_, ap, sym}
-use Prim.Native.Nat.{ℕ}
+use mathlib.Core.Path.{_∙_, _≡_, refl, sym}
 use native.Mathlib.Omega.{arith}
 use mathlib.Core.Bool.{true}
-use mathlib.Core.List.{List}
 use lib.ListN.{length}
 use borrow.Author.Needs.{needs}
 use borrow.Author.Tests.{not-false, not-true}
-use Rattle.changing.specs.Windows.{windowEdit}
-use Rattle.lent.specs.Outcome.{tagSays}
-use Rattle.editing.specs.Rewrote.{leavesTag, rewrote}
-use Rattle.lent.specs.Outcome.{Outcome}
-use Rattle.rewriting.proofs.Orders.{drop-on, drop-one, left-alone}
+use Rattle.rewriting.proofs.Orders.{drop-one, left-alone}
 use Rattle.samtags.proofs.Taken.{in-domain}
-use Rattle.samtags.specs.Edits.{edited, inRoom}
 use Rattle.samtags.specs.Reading.{inDomain}
-use Rattle.samtags.specs.Writing.{Tag}
 use Rattle.rewriting.proofs.drop_modifications_at.Statement.{statement}
 use Rattle.rewriting.proofs.drop_modifications_at.Tie as tie
 
 -- the lengths are in the domain
-domain : (s : tie.Else1) → inDomain (s .before .before .before .before .before .before .before .before .args .has-ml)
-    (s .before .before .before .before .before .before .before .before .args .seq .now)
-    (s .before .before .before .before .before .before .before .before .args .mm .now)
-    (s .before .before .before .before .before .before .before .before .args .ml .now) ≡ true
-domain s = sym (s .before .in-domain .ensures) ∙ not-false _ (s .if1 .left)
+domain : (e : tie.Else1) →
+    let a = e .before .before .before .before .before .before .before .before .args in
+    inDomain (a .has-ml) (a .seq .now) (a .mm .now) (a .ml .now) ≡ true
+domain e = sym (e .before .in-domain .ensures) ∙ not-false _ (e .if1 .left)
 
 in-domain-requires : tie.Need-in-domain-requires
 in-domain-requires c κs = search needs
@@ -37,22 +28,16 @@ returns c =
     (length (a .mm-out .now)) (length (a .ml-out .now))
     (sym (c .before .in-domain .ensures) ∙ not-true _ (c .if1 .taken)))
 
-no-marks-requires : tie.Need-no-marks-requires
-no-marks-requires c κs = search needs
+few-marks-requires : tie.Need-few-marks-requires
+few-marks-requires c κs = search needs
 
-slice-aggregate-mark-places : tie.Need-slice-aggregate-mark-places
-slice-aggregate-mark-places c = search needs
+slice-aggregate-drop-with : tie.Need-slice-aggregate-drop-with
+slice-aggregate-drop-with c = search needs
 
-mark-places-requires : tie.Need-mark-places-requires
-mark-places-requires c κs = search needs
-
-slice-aggregate-edit-tag : tie.Need-slice-aggregate-edit-tag
-slice-aggregate-edit-tag c = search needs
-
-edit-tag-requires : tie.Need-edit-tag-requires
-edit-tag-requires c κs =
-    let a = c .before .before .before .before .before .before .before .before .before .before .before .before .before .before .before .args in
-    in-domain (a .has-ml) (a .seq .now) (a .mm .now) (a .ml .now) (domain (c .before .before .before .before .before .before .before))
+drop-with-requires : tie.Need-drop-with-requires
+drop-with-requires c κs =
+    let row = c .before .before .before .few-marks .ensures in
+    (domain (c .before .before .before .before .before), omega (arith, row .0), (refl, row .1))
 
 same-length : tie.Need-same-length
 same-length c = search needs
@@ -61,26 +46,30 @@ same-length-2 : tie.Need-same-length-2
 same-length-2 c = search needs
 
 returns-2 : tie.Need-returns-2
-returns-2 c =
-    let w = c .before .before .before .before in
-    let a = w .before .before .before .before .before .before .before .before .before .before .before .before .before .before .before .before .args in
-    let fits = in-domain (a .has-ml) (a .seq .now) (a .mm .now) (a .ml .now) (domain
-    (w .before .before .before .before .before .before .before .before)) in
-    let row = w .before .before .before .before .before .before .before .no-marks .ensures in
-    let l = w .edit-tag .last .1 .1 .1 .1 .1 .1 .1 in
-    let made : rewrote (tagSays (w .edit-tag .result)) (l .0) (l .1 .0)
-    ≡ leavesTag (a .has-ml) (inRoom (a .has-ml) (length (a .mm-out .now)) (length (a .ml-out .now))
-    (edited (windowEdit 0 (a .seq .now) (w .before .before .before .before .before .mark-places .last .1 .0)) (a .has-ml) (a .seq .now) (a .mm .now)
-    (a .ml .now))) (a .mm-out .now) (a .ml-out .now) =
-    w .edit-tag .ensures in
-    made
-    ∙ ap (λ (marks : List ℕ). leavesTag (a .has-ml) (inRoom (a .has-ml) (length (a .mm-out .now)) (length (a .ml-out .now))
-    (edited (windowEdit 0 (a .seq .now) marks) (a .has-ml) (a .seq .now) (a .mm .now) (a .ml .now))) (a .mm-out .now) (a .ml-out .now))
-    (w .before .before .before .before .before .mark-places .ensures)
-    ∙ ap (λ (o : Outcome Tag). leavesTag (a .has-ml) o (a .mm-out .now) (a .ml-out .now))
-    (sym (drop-on (a .has-ml) (a .seq .now) (a .places .now) (a .mm .now) (a .ml .now) (length (a .mm-out .now)) (length (a .ml-out .now))
-    (domain (w .before .before .before .before .before .before .before .before))
-    (w .before .before .before .before .before .before .before .no-marks .result) (omega (arith, fits .0, row .0)) (row .1)))
+returns-2 c = search needs
+
+no-marks-requires : tie.Need-no-marks-requires
+no-marks-requires c κs = search needs
+
+slice-aggregate-drop-with-2 : tie.Need-slice-aggregate-drop-with-2
+slice-aggregate-drop-with-2 c = search needs
+
+drop-with-requires-2 : tie.Need-drop-with-requires-2
+drop-with-requires-2 c κs =
+    let e = c .before .before .before .before .before in
+    let a = e .before .before .before .before .before .before .before .before .args in
+    let row = c .before .before .before .no-marks .ensures in
+    let fits = in-domain (a .has-ml) (a .seq .now) (a .mm .now) (a .ml .now) (domain e) in
+    (domain e, omega (arith, fits .0, row .0), (refl, row .1))
+
+same-length-3 : tie.Need-same-length-3
+same-length-3 c = search needs
+
+same-length-4 : tie.Need-same-length-4
+same-length-4 c = search needs
+
+returns-3 : tie.Need-returns-3
+returns-3 c = search needs
 
 pub drop-modifications-at-spec : {M : Type 1} → statement M
 drop-modifications-at-spec =
@@ -88,11 +77,15 @@ drop-modifications-at-spec =
     (tie.spec
     in-domain-requires
     returns
-    no-marks-requires
-    slice-aggregate-mark-places
-    mark-places-requires
-    slice-aggregate-edit-tag
-    edit-tag-requires
+    few-marks-requires
+    slice-aggregate-drop-with
+    drop-with-requires
     same-length
     same-length-2
-    returns-2)
+    returns-2
+    no-marks-requires
+    slice-aggregate-drop-with-2
+    drop-with-requires-2
+    same-length-3
+    same-length-4
+    returns-3)

@@ -18,9 +18,9 @@ use Rattle.tagtext.proofs.TextLaws.{ends-semicolon, entry-eight, entry-refused,
 use Rattle.tagtext.specs.Answers.{entryRefusal, entrySays}
 use Rattle.tagtext.specs.Fields.{fieldOf}
 use Rattle.tagtext.specs.Walk.{trackedFrom}
-use Rattle.scanning.proofs.ScanLaws.{above-few, above-used, list-end, list-one}
+use Rattle.scanning.proofs.ScanLaws.{list-end, list-one}
 use Rattle.scanning.proofs.scan_entries.Statement.{statement}
-use Rattle.scanning.specs.Scanning.{aboveIn, columns, listedSpots, Columns, Listed}
+use Rattle.scanning.specs.Scanning.{columns, listedSpots, Columns, Listed}
 use Rattle.scanning.proofs.scan_entries.Tie as tie
 
 -- what the reading from a separator, a place and a value on leaves, after n calls
@@ -29,17 +29,16 @@ listed-from seq text ml base values g c n used at from =
     onDone (listedSpots g c n used) (readSpots values nowhere (ledBy 44 (upTo 59 (drop at text))) (trackedFrom base from seq) (drop used ml))
 
 abbrev Inv-loop : tie.InvT-loop
-Inv-loop seq text ml base values start groups₀ places₀ starts₀ at₀ used₀ calls₀ above₀ from₀ groups places starts at used calls above from =
+Inv-loop seq text ml base values start groups₀ places₀ starts₀ at₀ used₀ calls₀ from₀ groups places starts at used calls from =
     (at + length (upTo 59 (drop at text)) ≡ start .at + length (upTo 59 (drop (start .at) text)))
     × (length (fieldOf (drop at text)) ≡ 0)
     × (from .0 ≤ length seq) × (used ≤ length ml) × (calls ≤ at) × (start .at ≤ at)
-    × (above ≡ aboveIn (take used ml))
     × (listed-from seq text ml base values (start .group) (columns groups₀ places₀ starts₀) (start .calls) (start .used) (start .at) 0
     ≡ listed-from seq text ml base values (start .group) (columns groups places starts) calls used at (from .0))
     × (length groups ≡ length groups₀) × (length places ≡ length places₀) × (length starts ≡ length starts₀)
 
 abbrev μ-loop : tie.MeasureT-loop
-μ-loop seq text ml base values start groups₀ places₀ starts₀ at₀ used₀ calls₀ above₀ from₀ groups places starts at used calls above from = length text - at
+μ-loop seq text ml base values start groups₀ places₀ starts₀ at₀ used₀ calls₀ from₀ groups places starts at used calls from = length text - at
 
 -- where an entry lists a base and ML has its values: the place, and the places from the next on
 went : (k : tie.Else2 Inv-loop μ-loop) →
@@ -75,7 +74,7 @@ bounds k =
     omega (arith, rest)
 
 loop-holds : tie.Need-loop-holds Inv-loop μ-loop
-loop-holds c = (refl, omega arith, omega arith, omega arith, omega arith, omega arith, omega arith, refl, refl, refl, refl)
+loop-holds c = (refl, omega arith, omega arith, omega arith, omega arith, omega arith, refl, refl, refl, refl)
 
 shared-slice-read-if1 : tie.Need-shared-slice-read-if1 Inv-loop μ-loop
 shared-slice-read-if1 c = omega arith
@@ -120,7 +119,7 @@ returns c =
     let six-or-seven : readEntry (a .values) nowhere (f .result .now) places left ≡ refused (g .0 .0) =
     entry-refused (a .values) nowhere (f .result .now) places left (g .0 .0)
     (sym (ap entrySays (g .1)) ∙ c .before .before .before .find-entry .ensures) in
-    on-done-refused _ _ _ (h .inv .7
+    on-done-refused _ _ _ (h .inv .6
     ∙ ap (onDone (listedSpots (a .start .group) (columns (h .groups) (h .places) (h .starts)) (h .calls) (h .used)))
     (turn-refused (a .values) nowhere (a .text .now) (h .at) low (c .before .before .before .before .before .if1 .taken) (f .result .now)
     (f .ensures) places (a .ml .now) (h .used) (g .0 .0) six-or-seven)
@@ -148,7 +147,7 @@ returns-2 c =
     let places = trackedFrom (a .base) (h .from .0) (a .seq .now) in
     let left = length (a .ml .now) - h .used in
     let low : h .at < length (a .text .now) = omega arith in
-    on-done-refused _ _ _ (h .inv .7
+    on-done-refused _ _ _ (h .inv .6
     ∙ ap (onDone (listedSpots (a .start .group) (columns (h .groups) (h .places) (h .starts)) (h .calls) (h .used)))
     (turn-refused (a .values) nowhere (a .text .now) (h .at) low (c .before .before .before .before .before .before .if1 .taken) (f .result .now)
     (f .ensures) places (a .ml .now) (h .used) _
@@ -158,44 +157,27 @@ returns-2 c =
 list-call-requires : tie.Need-list-call-requires Inv-loop μ-loop
 list-call-requires c κs = omega (arith, went (c .before .before .before) .1)
 
-count-above-requires : tie.Need-count-above-requires Inv-loop μ-loop
-count-above-requires c κs = omega arith
-
-add-above : tie.Need-add-above Inv-loop μ-loop
-add-above c =
-    let h = c .before .before .before .before .before .before .before .before .before .before .before .before .before .before .before .before .before .before .before .loop in
-    omega (
-      arith,
-      h .inv .6,
-      c .count-above .ensures,
-      bounds
-          (c .before .before .before .before .before .before .before .before .before .before .before),
-      above-used
-          (c .before .before .before .before .before .before .before .before .before .before .before .before .before .before .before .before .before .before .before .before .before .before .before .before .before .before .args .ml .now) (h .used) (c .before .before .before .before .before .before .before .before .before .before .before .before .before .before .before .before .before .before .before .before .before .before .before .before .before .before .args .values),
-      above-few (c .before .before .before .before .before .before .before .before .before .before .before .before .before .before .before .before .before .before .before .before .before .before .before .before .before .before .args .ml .now) (h .used + c .before .before .before .before .before .before .before .before .before .before .before .before .before .before .before .before .before .before .before .before .before .before .before .before .before .before .args .values),
-    )
-
 add-at : tie.Need-add-at Inv-loop μ-loop
-add-at c = omega (arith, went (c .before .before .before .before .before .before .before .before .before .before .before .before) .1)
+add-at c = omega (arith, went (c .before .before .before .before .before .before .before .before .before .before .before) .1)
 
 add-used : tie.Need-add-used Inv-loop μ-loop
-add-used c = omega (arith, bounds (c .before .before .before .before .before .before .before .before .before .before .before .before))
+add-used c = omega (arith, bounds (c .before .before .before .before .before .before .before .before .before .before .before))
 
 add-calls : tie.Need-add-calls Inv-loop μ-loop
-add-calls c = omega (arith, bounds (c .before .before .before .before .before .before .before .before .before .before .before .before))
+add-calls c = omega (arith, bounds (c .before .before .before .before .before .before .before .before .before .before .before))
 
 add-at-2 : tie.Need-add-at-2 Inv-loop μ-loop
-add-at-2 c = omega (arith, bounds (c .before .before .before .before .before .before .before .before .before .before .before .before))
+add-at-2 c = omega (arith, bounds (c .before .before .before .before .before .before .before .before .before .before .before))
 
 add-at-3 : tie.Need-add-at-3 Inv-loop μ-loop
-add-at-3 c = omega (arith, bounds (c .before .before .before .before .before .before .before .before .before .before .before .before))
+add-at-3 c = omega (arith, bounds (c .before .before .before .before .before .before .before .before .before .before .before))
 
 loop-less : tie.Need-loop-less Inv-loop μ-loop
-loop-less c = omega (arith, bounds (c .before .before .before .before .before .before .before .before .before .before .before .before))
+loop-less c = omega (arith, bounds (c .before .before .before .before .before .before .before .before .before .before .before))
 
 loop-again : tie.Need-loop-again Inv-loop μ-loop
 loop-again c =
-    let k = c .before .before .before .before .before .before .before .before .before .before .before .before in
+    let k = c .before .before .before .before .before .before .before .before .before .before .before in
     let a = k .before .before .before .before .before .before .before .before .before .before .before .before .before .before .before .args in
     let h = k .before .before .before .before .before .before .before .before .loop in
     let f = k .before .before .before .before .before .next-field in
@@ -206,7 +188,7 @@ loop-again c =
     let b = bounds k in
     let low : h .at < length t = omega (arith, b) in
     let comma = k .before .before .before .before .before .before .if1 .taken in
-    let l = c .before .before .before .before .before .before .before .before .list-call in
+    let l = c .before .before .before .before .before .before .before .list-call in
     let in-groups : l .last .0 ≡ set (h .groups) (h .calls) (a .start .group) = l .ensures .0 in
     let in-places : l .last .1 .0 ≡ set (h .places) (h .calls) p = l .ensures .1 .0 in
     let in-starts : l .last .1 .1 .0 ≡ set (h .starts) (h .calls) (h .used) = l .ensures .1 .1 in
@@ -218,8 +200,7 @@ loop-again c =
       b .0,
       omega (arith, b),
       omega (arith, b),
-      omega (arith, h .inv .6, c .before .count-above .ensures, above-used (a .ml .now) (h .used) (a .values)),
-      h .inv .7
+      h .inv .6
           ∙ ap (onDone (listedSpots (a .start .group) (columns (h .groups) (h .places) (h .starts)) (h .calls) (h .used)))
           (turn-on (a .values) nowhere t (h .at) low comma (f .result .now) (f .ensures) places (a .ml .now) (h .used) p
           (trackedFrom (a .base) (p + 1) (a .seq .now)) (w .0))
@@ -228,9 +209,9 @@ loop-again c =
           (length-take-le (a .values) (drop (h .used) (a .ml .now)) (omega (arith, length-drop (h .used) (a .ml .now)))) rest
           ∙ (λ j. onDone (listedSpots (a .start .group) (columns (sym in-groups j) (sym in-places j) (sym in-starts j))
           (h .calls + 1) (h .used + a .values)) rest),
-      l .kept .0 ∙ h .inv .8,
-      l .kept .1 .0 ∙ h .inv .9,
-      l .kept .1 .1 .0 ∙ h .inv .10,
+      l .kept .0 ∙ h .inv .7,
+      l .kept .1 .0 ∙ h .inv .8,
+      l .kept .1 .1 .0 ∙ h .inv .9,
     )
 
 same-length-7 : tie.Need-same-length-7 Inv-loop μ-loop
@@ -255,8 +236,7 @@ returns-3 c =
       h .inv .3,
       refl,
       h .inv .4,
-      h .inv .6,
-      h .inv .7
+      h .inv .6
           ∙ ap (onDone (listedSpots (a .start .group) (columns (h .groups) (h .places) (h .starts)) (h .calls) (h .used)))
           (turn-end (a .values) nowhere t (h .at) low semi places (drop (h .used) (a .ml .now)))
           ∙ list-end (a .start .group) (columns (h .groups) (h .places) (h .starts)) (h .calls) (h .used) places (drop (h .used) (a .ml .now)),
@@ -286,8 +266,6 @@ scan-entries-spec =
     same-length-6
     returns-2
     list-call-requires
-    count-above-requires
-    add-above
     add-at
     add-used
     add-calls

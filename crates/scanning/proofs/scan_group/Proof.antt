@@ -27,7 +27,6 @@ entries-at w =
       used = s .used;
       group = s .group + 1;
       calls = s .calls;
-      above = s .above;
     }
 
 abbrev spots-at : (w : tie.After-scan-entries) → Outcome (List Spot × List ℕ)
@@ -155,13 +154,12 @@ returns-3 c =
       x .1,
       x .2,
       omega (arith, x .3),
-      x .4,
       group-listed (a .has-ml) (a .seq .now) (a .text .now) (a .start .at) (f .result .now) (f .ensures) (drop (a .start .used) (a .ml .now))
           (w .before .before .before .before .before .before .before .if1 .left)
           (w .before .before .before .before .before .before .values-if .result) (w .before .before .before .before .before .base-of .result)
           (w .before .before .before .before .before .before .values-if .ensures) (w .before .before .before .before .before .base-of .ensures)
           (a .start .group + 1)
-          (columns (a .groups .now) (a .places .now) (a .starts .now)) (a .start .calls) (a .start .used) ∙ x .5,
+          (columns (a .groups .now) (a .places .now) (a .starts .now)) (a .start .calls) (a .start .used) ∙ x .4,
     )
 
 pub scan-group-spec : {M : Type 1} → statement M

@@ -5,8 +5,7 @@ use Prim.Native.Nat.{_-_, _<_, _≤_, ℕ}
 use native.Mathlib.Omega.{arith}
 use mathlib.Core.Bool.{Bool}
 use mathlib.Core.List.{List}
-use lib.ListN.{drop, length, take}
-use lib.Seq.{take-all}
+use lib.ListN.{drop, length}
 use borrow.Author.Needs.{needs}
 use Rattle.lent.proofs.Outcome.{on-done-refused}
 use Rattle.lent.specs.Outcome.{onDone, Outcome}
@@ -15,7 +14,7 @@ use Rattle.samtags.specs.Text.{closedBy, upTo}
 use Rattle.tagtext.proofs.TextLaws.{ahead, groups-done, groups-over}
 use Rattle.scanning.proofs.ScanLaws.{finish-none, groups-refused, groups-turn}
 use Rattle.scanning.proofs.scan_groups.Statement.{statement}
-use Rattle.scanning.specs.Scanning.{GroupScanned, TagScanned, aboveIn, columns, finished, Columns, Finished}
+use Rattle.scanning.specs.Scanning.{GroupScanned, TagScanned, columns, finished, Columns, Finished}
 use Rattle.scanning.specs.declared.Cursor.{Cursor}
 use Rattle.scanning.specs.declared.Scan.{Scan}
 use Rattle.scanning.proofs.scan_groups.Tie as tie
@@ -27,7 +26,7 @@ finished-from ml? seq text ml rows c =
 
 abbrev Inv-loop : tie.InvT-loop
 Inv-loop seq text ml has-ml groups₀ places₀ starts₀ c₀ groups places starts c =
-    (c .at ≤ length text) × (c .used ≤ length ml) × (c .group ≤ c .at) × (c .calls ≤ c .at) × (c .above ≡ aboveIn (take (c .used) ml))
+    (c .at ≤ length text) × (c .used ≤ length ml) × (c .group ≤ c .at) × (c .calls ≤ c .at)
     × (finished-from has-ml seq text ml (columns groups₀ places₀ starts₀) c₀ ≡ finished-from has-ml seq text ml (columns groups places starts) c)
     × (length groups ≡ length groups₀) × (length places ≡ length places₀) × (length starts ≡ length starts₀)
 
@@ -55,7 +54,7 @@ inside : (s : tie.Then1 Inv-loop μ-loop) → s .before .before .loop .c .at < l
 inside s = omega arith
 
 loop-holds : tie.Need-loop-holds Inv-loop μ-loop
-loop-holds c = (omega arith, omega arith, omega arith, omega arith, refl, refl, refl, refl, refl)
+loop-holds c = (omega arith, omega arith, omega arith, omega arith, refl, refl, refl, refl)
 
 scan-group-requires : tie.Need-scan-group-requires Inv-loop μ-loop
 scan-group-requires c κs =
@@ -86,9 +85,9 @@ returns c =
     let h = w .before .before .before .before .before .before .loop in
     let g = c .enum-told .given in
     let l = w .scan-group .last .1 .1 .1 .1 .1 in
-    subst (λ (x : Scan). TagScanned (a .ml .now) (readGroups (a .has-ml) nowhere (a .seq .now) (closedBy 59 (a .text .now)) (a .ml .now))
+    subst (λ (x : Scan). TagScanned (readGroups (a .has-ml) nowhere (a .seq .now) (closedBy 59 (a .text .now)) (a .ml .now))
     (columns (a .groups .now) (a .places .now) (a .starts .now)) x (columns (l .0) (l .1 .0) (l .1 .1 .0))) (sym (g .1))
-    (on-done-refused _ _ _ (h .inv .5
+    (on-done-refused _ _ _ (h .inv .4
     ∙ ap (onDone (finished (h .c .group) (columns (h .groups) (h .places) (h .starts)) (h .c .calls) (h .c .used)))
     (groups-refused (a .has-ml) (a .seq .now) (a .text .now) (h .c .at) (inside (w .before .before .before .before))
     (w .before .before .before .before .before .before .before .before .before .before .before .before .before .pre .3)
@@ -113,14 +112,13 @@ loop-again c =
       x .1,
       omega (arith, x .0, x .2, h .inv .2),
       x .3,
-      x .4,
-      h .inv .5 ∙ groups-turn (a .has-ml) (a .seq .now) (a .text .now) (h .c .at) (inside (w .before .before .before .before))
+      h .inv .4 ∙ groups-turn (a .has-ml) (a .seq .now) (a .text .now) (h .c .at) (inside (w .before .before .before .before))
           (w .before .before .before .before .before .before .before .before .before .before .before .before .before .pre .3)
           (drop (h .c .used) (a .ml .now))
-          (h .c .group) (columns (h .groups) (h .places) (h .starts)) (h .c .calls) (h .c .used) _ _ _ _ (x .0) (x .2) (x .5),
-      k .0 ∙ h .inv .6,
-      k .1 .0 ∙ h .inv .7,
-      k .1 .1 .0 ∙ h .inv .8,
+          (h .c .group) (columns (h .groups) (h .places) (h .starts)) (h .c .calls) (h .c .used) _ _ _ _ (x .0) (x .2) (x .4),
+      k .0 ∙ h .inv .5,
+      k .1 .0 ∙ h .inv .6,
+      k .1 .1 .0 ∙ h .inv .7,
     )
 
 same-length-4 : tie.Need-same-length-4 Inv-loop μ-loop
@@ -136,7 +134,7 @@ returns-2 : tie.Need-returns-2 Inv-loop μ-loop
 returns-2 c =
     let a = c .before .before .before .before .before .before .before .before .before .before .before .args in
     let h = c .before .before .before .before .loop in
-    on-done-refused _ _ _ (h .inv .5
+    on-done-refused _ _ _ (h .inv .4
     ∙ ap (onDone (finished (h .c .group) (columns (h .groups) (h .places) (h .starts)) (h .c .calls) (h .c .used)))
     (groups-over (a .has-ml) nowhere (a .seq .now) (a .text .now) (h .c .at) (omega arith) (a .ml .now) (h .c .used) (omega arith)))
 
@@ -153,13 +151,11 @@ returns-3 : tie.Need-returns-3 Inv-loop μ-loop
 returns-3 c =
     let a = c .before .before .before .before .before .before .before .before .before .before .before .args in
     let h = c .before .before .before .before .loop in
-    let all : length (a .ml .now) ≤ h .c .used = omega arith in (
-      h .inv .5
-          ∙ ap (onDone (finished (h .c .group) (columns (h .groups) (h .places) (h .starts)) (h .c .calls) (h .c .used)))
-          (groups-done (a .has-ml) nowhere (a .seq .now) (a .text .now) (h .c .at) (omega arith) (a .ml .now) (h .c .used) all)
-          ∙ finish-none (h .c .group) (columns (h .groups) (h .places) (h .starts)) (h .c .calls) (h .c .used),
-      h .inv .4 ∙ ap aboveIn (take-all (h .c .used) (a .ml .now) all),
-    )
+    let all : length (a .ml .now) ≤ h .c .used = omega arith in
+    h .inv .4
+    ∙ ap (onDone (finished (h .c .group) (columns (h .groups) (h .places) (h .starts)) (h .c .calls) (h .c .used)))
+    (groups-done (a .has-ml) nowhere (a .seq .now) (a .text .now) (h .c .at) (omega arith) (a .ml .now) (h .c .used) all)
+    ∙ finish-none (h .c .group) (columns (h .groups) (h .places) (h .starts)) (h .c .calls) (h .c .used)
 
 pub scan-groups-spec : {M : Type 1} → statement M
 scan-groups-spec =

@@ -1,20 +1,14 @@
--- `drop_calls`: the order of the lengths, marks for the places, and then the step.
+-- `drop_calls`: the order of the lengths, and then the drop with a row for the marks, the short one or the long one.
 -- Assumes nothing.
-use mathlib.Core.Path.{_∙_, _≡_, ap, sym}
+use mathlib.Core.Path.{_∙_, _≡_, ap, refl, sym}
+use native.Mathlib.Omega.{arith}
 use borrow.Author.Needs.{needs}
 use Rattle.lent.specs.Outcome.{refused}
 use Rattle.lent.specs.declared.Refusal.{Refusal}
+use Rattle.samtags.specs.Session.{Memory, dropCalls}
 use Rattle.stepping.proofs.OrderLaws.{order-kept}
-use Rattle.stepping.specs.Steps.{Ordered, came, leavesMemory, memory, orderRefusal, orderSays}
-use Prim.Native.Nat.{_<_, _≤_, ℕ}
-use native.Mathlib.Omega.{arith}
-use lib.ListN.{length, length-take}
-use mathlib.Core.List.{List}
-use Rattle.changing.proofs.WindowLaws.{marked-only}
-use Rattle.changing.specs.Windows.{isMarked, storedAt}
-use Rattle.lent.specs.Lists.{among}
-use Rattle.samtags.specs.Session.{Memory, dropCalls, heldIn}
-use Rattle.stepping.proofs.StepLaws.{drop-is-step, left-as-was, refused-by-order}
+use Rattle.stepping.proofs.StepLaws.{left-as-was, refused-by-order}
+use Rattle.stepping.specs.Steps.{Ordered, came, memory, orderRefusal, orderSays}
 use Rattle.session.proofs.drop_calls.Statement.{statement}
 use Rattle.session.proofs.drop_calls.Tie as tie
 
@@ -50,20 +44,16 @@ returns c =
     ∙ left-as-was (before s) _ _ (refused-by-order (s .args .has-ml) (before s) (dropCalls (s .args .places .now)) (g .0 .0)
     (sym (c .before .before .before .lengths-in-order .ensures) ∙ ap orderSays (g .1)))
 
-no-marks-requires : tie.Need-no-marks-requires
-no-marks-requires c κs = search needs
+few-marks-requires : tie.Need-few-marks-requires
+few-marks-requires c κs = search needs
 
-slice-aggregate-mark-places : tie.Need-slice-aggregate-mark-places
-slice-aggregate-mark-places c = search needs
+slice-aggregate-drop-with : tie.Need-slice-aggregate-drop-with
+slice-aggregate-drop-with c = search needs
 
-mark-places-requires : tie.Need-mark-places-requires
-mark-places-requires c κs = search needs
-
-slice-aggregate-drop-marked : tie.Need-slice-aggregate-drop-marked
-slice-aggregate-drop-marked c = search needs
-
-drop-marked-requires : tie.Need-drop-marked-requires
-drop-marked-requires c κs = ordered (c .before .before .before .before .before .before .before)
+drop-with-requires : tie.Need-drop-with-requires
+drop-with-requires c κs =
+    let row = c .before .before .before .few-marks .ensures in
+    (ordered (c .before .before .before .before .before .before), omega (arith, row .0), (refl, row .1))
 
 same-length : tie.Need-same-length
 same-length c = search needs
@@ -72,19 +62,28 @@ same-length-2 : tie.Need-same-length-2
 same-length-2 c = search needs
 
 returns-2 : tie.Need-returns-2
-returns-2 c =
-    let w = c .before .before .before .before in
-    let s = w .before .before .before .before .before .before .before .before .before .before .before .before .before .before .before in
-    let a = s .args in
-    let k = w .before .before .before .before .before .before .before .before in
-    let row = w .before .before .before .before .before .before .before .no-marks in
-    let marks = w .before .before .before .before .before .mark-places .last .1 .0 in
-    let put : marks ≡ storedAt 1 (a .places .now) (row .result) = w .before .before .before .before .before .mark-places .ensures in
-    let in-row : length (heldIn (before s) .seq) ≤ length (row .result) =
-    omega (arith, row .ensures .0, ordered k .0, length-take (a .lengths .seq) (a .seq .now)) in
-    let named : (p : ℕ) → p < length (heldIn (before s) .seq) → isMarked marks p ≡ among (a .places .now) p =
-    λ p l. ap (λ (r : List ℕ). isMarked r p) put ∙ marked-only (a .places .now) (row .result) (row .ensures .1) p (omega (arith, l, in-row)) in
-    w .drop-marked .ensures ∙ ap (leavesMemory (before s)) (drop-is-step (a .has-ml) (before s) (ordered k) (a .places .now) marks named)
+returns-2 c = search needs
+
+no-marks-requires : tie.Need-no-marks-requires
+no-marks-requires c κs = search needs
+
+slice-aggregate-drop-with-2 : tie.Need-slice-aggregate-drop-with-2
+slice-aggregate-drop-with-2 c = search needs
+
+drop-with-requires-2 : tie.Need-drop-with-requires-2
+drop-with-requires-2 c κs =
+    let k = c .before .before .before .before .before .before in
+    let row = c .before .before .before .no-marks .ensures in
+    (ordered k, omega (arith, ordered k .0, row .0), (refl, row .1))
+
+same-length-3 : tie.Need-same-length-3
+same-length-3 c = search needs
+
+same-length-4 : tie.Need-same-length-4
+same-length-4 c = search needs
+
+returns-3 : tie.Need-returns-3
+returns-3 c = search needs
 
 pub drop-calls-spec : {M : Type 1} → statement M
 drop-calls-spec =
@@ -95,11 +94,15 @@ drop-calls-spec =
     enum-told-2
     refusal-requires
     returns
-    no-marks-requires
-    slice-aggregate-mark-places
-    mark-places-requires
-    slice-aggregate-drop-marked
-    drop-marked-requires
+    few-marks-requires
+    slice-aggregate-drop-with
+    drop-with-requires
     same-length
     same-length-2
-    returns-2)
+    returns-2
+    no-marks-requires
+    slice-aggregate-drop-with-2
+    drop-with-requires-2
+    same-length-3
+    same-length-4
+    returns-3)

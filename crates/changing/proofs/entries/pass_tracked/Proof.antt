@@ -1,15 +1,20 @@
--- `pass_tracked`: as many of the group's bases are left to pass as `skip` is ahead of the ordinal, and those that were passed are counted.
+-- `pass_tracked`: from where it begins, as many of the group's bases are left to pass as `skip` is ahead of the ordinal, and those that were passed are
+-- counted.
 -- Assumes nothing.
-use mathlib.Core.Path.{_∙_, _≡_, ap, sym}
+use mathlib.Core.Path.{_∙_, _≡_, ap, refl, sym}
 use Prim.Native.Nat.{_+_, _-_, _≤_, ℕ}
 use native.Mathlib.Omega.{arith}
 use mathlib.Core.Bool.{Bool, cond}
 use mathlib.Core.Logic.{⊎-elim}
-use lib.ListN.{length}
+use lib.ListN.{drop, length, length-take, take}
 use borrow.Author.Needs.{needs}
-use Rattle.changing.proofs.EntryLaws.{one-at-most, passing-at, passing-end, passing-miss, passing-on}
+use Rattle.changing.proofs.EntryLaws.{one-at-most, passing-at, passing-behind, passing-end, passing-miss, passing-on}
 use Rattle.changing.specs.Drafts.{passing}
 use Rattle.changing.specs.Windows.{heldIn}
+use Rattle.lent.proofs.Lists.{filter-length}
+use Rattle.samtags.proofs.Places.{places-length}
+use Rattle.samtags.specs.Spots.{holds}
+use Rattle.strides.specs.Counts.{between, heldThere}
 use Rattle.tagtext.specs.Walk.{trackedFrom}
 use Rattle.changing.proofs.entries.pass_tracked.Statement.{statement}
 use Rattle.changing.proofs.entries.pass_tracked.Tie as tie
@@ -17,16 +22,36 @@ use Rattle.changing.proofs.entries.pass_tracked.Tie as tie
 abbrev Inv-loop : tie.InvT-loop
 Inv-loop seq after lo base skip ordinal₀ held₀ pos₀ ordinal held pos =
     (pos .0 ≤ length seq) × (ordinal .0 ≤ skip .0) × (ordinal .0 ≤ pos .0) × (held .0 ≤ ordinal .0)
-    × (passing (heldIn lo after base) 0 (skip .0) (trackedFrom base (pos₀ .0) seq)
+    × (passing (heldIn lo after base) (held₀ .0) (skip .0 - ordinal₀ .0) (trackedFrom base (pos₀ .0) seq)
     ≡ passing (heldIn lo after base) (held .0) (skip .0 - ordinal .0) (trackedFrom base (pos .0) seq))
 
 abbrev μ-loop : tie.MeasureT-loop
 μ-loop seq after lo base skip ordinal₀ held₀ pos₀ ordinal held pos = length seq - pos .0
 
+-- what is left to pass where the walk begins
+begun : (k : tie.After-ahead Inv-loop μ-loop) →
+    let a = k .before .before .before .args in
+    let r = k .ahead .result in
+    passing (heldIn (a .lo) (a .after .now) (a .base)) 0 (a .skip .0) (trackedFrom (a .base) (a .from .0) (a .seq .now))
+    ≡ passing (heldIn (a .lo) (a .after .now) (a .base)) (r .held) (a .skip .0 - r .passed) (trackedFrom (a .base) (r .place) (a .seq .now))
+begun k =
+    let a = k .before .before .before .args in
+    let r = k .ahead .result in
+    let e = k .ahead .ensures in
+    passing-behind (a .lo) (a .after .now) (a .base) (a .seq .now) (a .from .0) (r .place) (a .skip .0) (r .passed) (r .held) (e .0) (e .1) (e .2) (e .3) (e .4)
+
+ahead-requires : tie.Need-ahead-requires Inv-loop μ-loop
+ahead-requires c κs = (omega arith, omega arith)
+
 loop-holds : tie.Need-loop-holds Inv-loop μ-loop
 loop-holds c =
-    let z : c .before .before .args .skip .0 - 0 ≡ c .before .before .args .skip .0 = omega arith in
-    (omega arith, omega arith, omega arith, omega arith, rw z)
+    let a = c .before .before .before .args in
+    let r = c .ahead .result in
+    let e = c .ahead .ensures in
+    let all = between (a .base) (a .seq .now) (a .from .0) (r .place) in
+    let short = places-length (holds (a .base)) (a .from .0) (take (r .place - a .from .0) (drop (a .from .0) (a .seq .now))) in
+    let part = length-take (r .place - a .from .0) (drop (a .from .0) (a .seq .now)) in
+    (e .1, e .2, omega (arith, e .3, short, part), omega (arith, e .3, e .4, filter-length (heldThere (a .lo) (a .after .now) (a .base)) all), refl)
 
 shared-slice-read-counts : tie.Need-shared-slice-read-counts Inv-loop μ-loop
 shared-slice-read-counts c = omega arith
@@ -37,13 +62,14 @@ counts-requires c κs = search needs
 returns : tie.Need-returns Inv-loop μ-loop
 returns c =
     let h = c .before .before .before .before .before .before .before .before .loop in
-    let a = c .before .before .before .before .before .before .before .before .before .before .before .args in
-    sym (h .inv .4 ∙ passing-at (heldIn (a .lo) (a .after .now) (a .base)) (a .base) (a .seq .now) (h .pos .0) (h .held .0) (a .skip .0 -
-    h .ordinal .0)
-    (omega arith) (sym (c .before .before .before .before .counts .ensures) ∙ c .before .before .before .if2 .taken) (omega arith))
+    let k = c .before .before .before .before .before .before .before .before .before in
+    let a = k .before .before .before .args in
+    sym (begun k ∙ h .inv .4 ∙ passing-at (heldIn (a .lo) (a .after .now) (a .base)) (a .base) (a .seq .now) (h .pos .0) (h .held .0)
+    (a .skip .0 - h .ordinal .0) (omega arith) (sym (c .before .before .before .before .counts .ensures) ∙ c .before .before .before .if2 .taken)
+    (omega arith))
 
-add-t18 : tie.Need-add-t18 Inv-loop μ-loop
-add-t18 c = omega arith
+add-t19 : tie.Need-add-t19 Inv-loop μ-loop
+add-t19 c = omega arith
 
 still-held-requires : tie.Need-still-held-requires Inv-loop μ-loop
 still-held-requires c κs = search needs
@@ -51,8 +77,8 @@ still-held-requires c κs = search needs
 one-more-requires : tie.Need-one-more-requires Inv-loop μ-loop
 one-more-requires c κs = omega arith
 
-add-t13 : tie.Need-add-t13 Inv-loop μ-loop
-add-t13 c = omega arith
+add-t14 : tie.Need-add-t14 Inv-loop μ-loop
+add-t14 c = omega arith
 
 loop-less : tie.Need-loop-less Inv-loop μ-loop
 loop-less c = omega arith
@@ -60,7 +86,7 @@ loop-less c = omega arith
 loop-again : tie.Need-loop-again Inv-loop μ-loop
 loop-again c =
     let h = c .before .before .before .before .before .loop in
-    let a = c .before .before .before .before .before .before .before .before .args in
+    let a = c .before .before .before .before .before .before .before .before .before .args in
     let i = h .pos .0 in
     let n = a .skip .0 - h .ordinal .0 in
     let held = heldIn (a .lo) (a .after .now) (a .base) in
@@ -90,10 +116,10 @@ loop-again c =
 returns-2 : tie.Need-returns-2 Inv-loop μ-loop
 returns-2 c =
     let h = c .before .before .loop in
-    let a = c .before .before .before .before .before .args in
-    sym (h .inv .4 ∙ passing-end (heldIn (a .lo) (a .after .now) (a .base)) (a .base) (a .seq .now) (h .pos .0) (h .held .0) (a .skip .0 -
-    h .ordinal .0)
-    (omega arith))
+    let k = c .before .before .before in
+    let a = k .before .before .before .args in
+    sym (begun k ∙ h .inv .4 ∙ passing-end (heldIn (a .lo) (a .after .now) (a .base)) (a .base) (a .seq .now) (h .pos .0) (h .held .0)
+    (a .skip .0 - h .ordinal .0) (omega arith))
 
 pub pass-tracked-spec : {M : Type 1} → statement M
 pass-tracked-spec =
@@ -101,14 +127,15 @@ pass-tracked-spec =
     (tie.spec
     Inv-loop
     μ-loop
+    ahead-requires
     loop-holds
     shared-slice-read-counts
     counts-requires
     returns
-    add-t18
+    add-t19
     still-held-requires
     one-more-requires
-    add-t13
+    add-t14
     loop-less
     loop-again
     returns-2)

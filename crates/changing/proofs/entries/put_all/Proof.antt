@@ -1,36 +1,41 @@
--- `put_all`: what is left to put, from here on, gives what all of it gives from the start.
+-- `put_all`: the bytes that the room reaches are stored; those past it are stored nowhere.
 -- Assumes nothing.
 use mathlib.Core.Path.{_∙_, _≡_, ap, refl, sym}
 use Prim.Native.Nat.{_+_, _-_, _≤_, ℕ}
 use native.Mathlib.Omega.{arith}
-use mathlib.Core.List.{List}
-use lib.ListN.{drop, drop-of-length-le, length}
+use mathlib.Core.Logic.{⊎-elim}
+use lib.ListN.{drop, drop-of-length-le, getD, length, length-set}
 use lib.Seq.{sets}
 use borrow.Author.Needs.{needs}
-use Rattle.lent.proofs.Stores.{sets-on}
+use Rattle.lent.proofs.Stores.{sets-on, sets-out}
+use Rattle.changing.proofs.PutLaws.{less-of}
 use Rattle.changing.proofs.entries.put_all.Statement.{statement}
 use Rattle.changing.proofs.entries.put_all.Tie as tie
 
 abbrev Inv-loop : tie.InvT-loop
-Inv-loop out₀ at bytes i₀ out i = (i ≤ length bytes) × (sets out₀ at bytes ≡ sets out (at + i) (drop i bytes)) × (length out ≡ length out₀)
+Inv-loop out₀ at bytes n i₀ out i =
+    (i ≤ n) × (sets out₀ at bytes ≡ sets out (at + i) (drop i bytes)) × (length out ≡ length out₀)
 
 abbrev μ-loop : tie.MeasureT-loop
-μ-loop out₀ at bytes i₀ out i = length bytes - i
+μ-loop out₀ at bytes n i₀ out i = n - i
+
+fitting-requires : tie.Need-fitting-requires Inv-loop μ-loop
+fitting-requires c κs = search needs
 
 loop-holds : tie.Need-loop-holds Inv-loop μ-loop
 loop-holds c =
-    let a = c .before .before .args in
+    let a = c .before .before .before .args in
     let z : a .at ≡ a .at + 0 = omega arith in
     (omega arith, ap (λ (n : ℕ). sets (a .out .now) n (a .bytes .now)) z, refl)
 
-add-put : tie.Need-add-put Inv-loop μ-loop
-add-put c = omega arith
+shared-slice-read-out : tie.Need-shared-slice-read-out Inv-loop μ-loop
+shared-slice-read-out c = omega arith
 
-shared-slice-read-put : tie.Need-shared-slice-read-put Inv-loop μ-loop
-shared-slice-read-put c = omega arith
+add-out : tie.Need-add-out Inv-loop μ-loop
+add-out c = omega arith
 
-put-requires : tie.Need-put-requires Inv-loop μ-loop
-put-requires c κs = search needs
+slice-write-out : tie.Need-slice-write-out Inv-loop μ-loop
+slice-write-out c = omega arith
 
 add-i : tie.Need-add-i Inv-loop μ-loop
 add-i c = omega arith
@@ -40,14 +45,9 @@ loop-less c = omega arith
 
 loop-again : tie.Need-loop-again Inv-loop μ-loop
 loop-again c =
-    let h = c .before .before .before .before .before .before .loop in
-    let a = c .before .before .before .before .before .before .before .before .before .args in
-    let p = c .before .before .put in (
-      omega arith,
-      h .inv .1 ∙ sets-on (h .out) (a .at) (a .bytes .now) (h .i) 0 (omega arith)
-          ∙ ap (λ (l : List ℕ). sets l (a .at + (h .i + 1)) (drop (h .i + 1) (a .bytes .now))) (sym (p .ensures)),
-      p .kept .0 ∙ h .inv .2,
-    )
+    let h = c .before .before .loop in
+    let a = c .before .before .before .before .before .before .args in
+    (omega arith, h .inv .1 ∙ sets-on (h .out) (a .at) (a .bytes .now) (h .i) 0 (omega arith), length-set (h .out) (a .at + h .i) (getD (a .bytes .now) (h .i) 0) ∙ h .inv .2)
 
 add-result : tie.Need-add-result Inv-loop μ-loop
 add-result c = omega arith
@@ -58,8 +58,13 @@ same-length c = omega arith
 returns : tie.Need-returns Inv-loop μ-loop
 returns c =
     let h = c .before .loop in
-    let a = c .before .before .before .before .args in
-    (omega arith, sym (h .inv .1 ∙ ap (sets (h .out) (a .at + h .i)) (drop-of-length-le (a .bytes .now) (c .loop-test .left))))
+    let a = c .before .before .before .before .before .args in
+    let n = c .before .before .fitting .result in
+    let done : sets (a .out .now) (a .at) (a .bytes .now) ≡ h .out = h .inv .1 ∙ ⊎-elim
+    (λ e. let all : length (a .bytes .now) ≤ h .i = omega arith in ap (sets (h .out) (a .at + h .i)) (drop-of-length-le (a .bytes .now) all))
+    (λ e. sets-out (drop (h .i) (a .bytes .now)) (h .out) (a .at + h .i) (omega arith))
+    (less-of (length (a .bytes .now)) (length (a .out .now) - a .at) n (c .before .before .fitting .ensures)) in
+    (omega arith, sym done)
 
 pub put-all-spec : {M : Type 1} → statement M
 put-all-spec =
@@ -67,10 +72,11 @@ put-all-spec =
     (tie.spec
     Inv-loop
     μ-loop
+    fitting-requires
     loop-holds
-    add-put
-    shared-slice-read-put
-    put-requires
+    shared-slice-read-out
+    add-out
+    slice-write-out
     add-i
     loop-less
     loop-again

@@ -3,20 +3,23 @@
 use mathlib.Core.Path.{_∙_, _≡_, ap, sym}
 use Prim.Native.Nat.{_+_, _-_, _≤_, ℕ}
 use native.Mathlib.Omega.{arith}
+use mathlib.Core.Bool.{Bool, and-false, and-true, _&&_}
 use lib.ListN.{drop, length, length-drop}
 use borrow.Author.Needs.{needs}
-use borrow.Author.Tests.{le-leb, lt-leb, not-false, not-true}
+use borrow.Author.Tests.{le-leb, lt-leb}
 use Rattle.changing.proofs.WindowLaws.{lies-end, lies-on, lies-short, lies-stop}
+use Rattle.lent.proofs.Tests.{by-test}
 use Rattle.samtags.specs.Edits.{liesIn}
 use Rattle.changing.proofs.windows.lies_in.Statement.{statement}
 use Rattle.changing.proofs.windows.lies_in.Tie as tie
 
 abbrev Inv-loop : tie.InvT-loop
-Inv-loop after seq lo i₀ i = (i ≤ length after) × (lo + length after ≤ length seq) × (liesIn after (drop lo seq) ≡ liesIn (drop i after) (drop (lo +
-    i) seq))
+Inv-loop after seq lo lies₀ i₀ lies i =
+    (i ≤ length after) × (lo + length after ≤ length seq)
+    × (liesIn after (drop lo seq) ≡ lies && liesIn (drop i after) (drop (lo + i) seq))
 
 abbrev μ-loop : tie.MeasureT-loop
-μ-loop after seq lo i₀ i = length after - i
+μ-loop after seq lo lies₀ i₀ lies i = length after - i
 
 returns : tie.Need-returns Inv-loop μ-loop
 returns c = rw (lt-leb (c .before .before .before .args .lo) (length (c .before .before .before .args .seq .now)) (omega arith))
@@ -54,17 +57,6 @@ shared-slice-read-stands-2 c = omega arith
 stands-requires : tie.Need-stands-requires Inv-loop μ-loop
 stands-requires c κs = search needs
 
-returns-3 : tie.Need-returns-3 Inv-loop μ-loop
-returns-3 c =
-    let h = c .before .before .before .before .before .loop in
-    let a = c .before .before .before .before .before .before .before .before .before .before .args in
-    rw (
-      le-leb (a .lo) (length (a .seq .now)) (omega arith),
-      h .inv .2,
-      lies-stop (a .after .now) (a .seq .now) (a .lo) (h .i) (omega arith) (omega arith) (sym (c .before .stands .ensures) ∙ not-true _
-          (c .if3 .taken)),
-    )
-
 add-i : tie.Need-add-i Inv-loop μ-loop
 add-i c = omega arith
 
@@ -73,19 +65,29 @@ loop-less c = omega arith
 
 loop-again : tie.Need-loop-again Inv-loop μ-loop
 loop-again c =
-    let h = c .before .before .before .before .before .loop in
-    let a = c .before .before .before .before .before .before .before .before .before .before .args in (
+    let h = c .before .before .before .before .loop in
+    let a = c .before .before .before .before .before .before .before .before .before .args in
+    let stands = sym (c .stands .ensures) in
+    by-test (c .stands .result)
+    (λ e. rw (e, and-true (h .lies)) (
       omega arith,
       omega arith,
-      h .inv .2 ∙ lies-on (a .after .now) (a .seq .now) (a .lo) (h .i) (omega arith) (omega arith)
-          (sym (c .before .stands .ensures) ∙ not-false _ (c .if3 .left)),
-    )
+      h .inv .2 ∙ ap (λ (t : Bool). h .lies && t)
+          (lies-on (a .after .now) (a .seq .now) (a .lo) (h .i) (omega arith) (omega arith) (stands ∙ e)),
+    ))
+    (λ e. rw (e, and-false (h .lies)) (
+      omega arith,
+      omega arith,
+      h .inv .2 ∙ ap (λ (t : Bool). h .lies && t)
+          (lies-stop (a .after .now) (a .seq .now) (a .lo) (h .i) (omega arith) (omega arith) (stands ∙ e)) ∙ and-false (h .lies),
+    ))
 
-returns-4 : tie.Need-returns-4 Inv-loop μ-loop
-returns-4 c =
+returns-3 : tie.Need-returns-3 Inv-loop μ-loop
+returns-3 c =
     let h = c .before .loop in
     let a = c .before .before .before .before .before .before .args in
-    rw (le-leb (a .lo) (length (a .seq .now)) (omega arith), h .inv .2, lies-end (a .after .now) (a .seq .now) (a .lo) (h .i) (omega arith))
+    rw (le-leb (a .lo) (length (a .seq .now)) (omega arith))
+    (sym (h .inv .2 ∙ rw (lies-end (a .after .now) (a .seq .now) (a .lo) (h .i) (omega arith)) (and-true (h .lies))))
 
 pub lies-in-spec : {M : Type 1} → statement M
 lies-in-spec =
@@ -101,8 +103,7 @@ lies-in-spec =
     add-stands
     shared-slice-read-stands-2
     stands-requires
-    returns-3
     add-i
     loop-less
     loop-again
-    returns-4)
+    returns-3)

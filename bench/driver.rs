@@ -1,0 +1,155 @@
+//! Every side of the benchmark in one program: makes the inputs, runs each side on them, holds their answers together, and prints for each side
+//! its bucket, row and time. The plugin count.c counts the instructions of each bucket.
+//!
+//! An argument gives the number of rounds.
+
+mod inputs;
+mod original;
+mod rattle;
+#[path = "../oracle/src/stand_ins.rs"]
+mod stand_ins;
+
+// The originals say `crate::MethylationMode`, `crate::vanilla_caller`, and `fgumi_dna::dna` for what is here the module `dna`.
+extern crate self as fgumi_dna;
+pub use stand_ins::{MethylationMode, vanilla_caller};
+include!(env!("BENCH_ORIGINALS"));
+
+use inputs::{Case, Columns, Density};
+use std::cell::RefCell;
+use std::ffi::{CString, c_char, c_long, c_void};
+use std::hint::black_box;
+use std::time::Instant;
+
+const CHOOSE_BUCKET: c_long = 8888;
+
+unsafe extern "C" {
+    fn syscall(number: c_long, ...) -> c_long;
+    fn hts_side_open(seq: *const u8, bases: usize, mm: *const c_char, ml: *const u8, values: usize) -> *mut c_void;
+    fn hts_side_read(side: *mut c_void, places: *mut u32, values: *mut u8) -> c_long;
+}
+
+#[inline(never)]
+fn count_in(bucket: c_long) {
+    unsafe { syscall(CHOOSE_BUCKET, bucket) };
+}
+
+/// How many calls a round has, each with a session of its own: enough for the clock, few enough for the processor's caches.
+fn calls_a_round(c: &Case) -> usize {
+    (64_000 / c.bases).min(64)
+}
+
+/// Measures sides: a bucket for each.
+struct Meter {
+    bucket: c_long,
+    rounds: usize,
+}
+
+impl Meter {
+    /// Runs a side for some rounds, after one that is not counted; nor is what `restore` does before each. Prints the side's bucket, row and number
+    /// of calls, and the nanoseconds of a call in its fastest round.
+    fn side(&mut self, c: &Case, row: &str, who: &str, mut restore: impl FnMut(), mut call: impl FnMut(usize)) {
+        self.bucket += 1;
+        let calls = calls_a_round(c);
+        let mut best = f64::MAX;
+        restore();
+        (0..calls).for_each(&mut call);
+        for _ in 0..self.rounds {
+            restore();
+            let begun = Instant::now();
+            count_in(self.bucket);
+            (0..calls).for_each(&mut call);
+            count_in(0);
+            best = best.min(begun.elapsed().as_nanos() as f64 / calls as f64);
+        }
+        println!("{} {row} {} {} {who} {} {best:.1}", self.bucket, c.bases, c.density.name(), calls * self.rounds);
+    }
+}
+
+fn reading(meter: &mut Meter, c: &Case) {
+    meter.side(c, "read", "rust", || {}, |_| drop(black_box(original::read(black_box(c)))));
+    assert_eq!(original::read(c), Some((c.mm.clone(), c.ml.clone())));
+
+    let mut rows = rattle::CallRows::new(c);
+    meter.side(c, "read", "rattle", || {}, |_| assert_eq!(rows.read(black_box(c)), 0));
+
+    let text = CString::new(c.mm.as_str()).expect("no 0 in a tag");
+    let side = unsafe { hts_side_open(c.seq.as_ptr(), c.bases, text.as_ptr(), c.ml.as_ptr(), c.ml.len()) };
+    assert!(!side.is_null());
+    let (mut places, mut values) = (vec![0; c.bases], vec![0; c.bases]);
+    let mut read = || unsafe { hts_side_read(black_box(side), places.as_mut_ptr(), values.as_mut_ptr()) };
+    meter.side(c, "read", "htslib", || {}, |_| {
+        black_box(read());
+    });
+    let calls = usize::try_from(read()).expect("htslib reads the tag");
+    let found: Vec<(u32, u8)> = (0..calls).map(|i| (places[i], values[i])).collect();
+    assert_eq!(found, rows.calls(c), "calls of htslib and of Rattle");
+
+    meter.side(c, "check", "rattle", || {}, |_| assert_eq!(rattle::check(black_box(c)).0, 0));
+    assert_eq!(rattle::check(c), (0, 1, calls));
+    meter.side(c, "tally", "rattle", || {}, |_| assert_eq!(rattle::tally(black_box(c)).0, 0));
+    let above = c.ml.iter().filter(|&&value| value >= 128).count();
+    assert_eq!(rattle::tally(c), (0, above, c.ml.len() - above));
+}
+
+/// One kind of edit: the Rust's, Rattle's from row to row, and Rattle's session step, whose SEQ becomes `left`.
+fn edit(
+    meter: &mut Meter,
+    c: &Case,
+    row: &str,
+    rust: fn(&Case) -> original::Tag,
+    rewrite: fn(&mut rattle::TagRows, &Case) -> u8,
+    step: fn(&mut rattle::Session, &Case) -> u8,
+    left: &[u8],
+) {
+    meter.side(c, row, "rust", || {}, |_| drop(black_box(rust(black_box(c)))));
+    let expected = rust(c).expect("the Rust edits the tag");
+
+    let mut rows = rattle::TagRows::new(c);
+    meter.side(c, row, "rattle", || {}, |_| assert_eq!(rewrite(&mut rows, black_box(c)), 0));
+    assert_eq!(rows.tag(), expected, "{row} of {} bases", c.bases);
+
+    let all = RefCell::new(Vec::from_iter((0..calls_a_round(c)).map(|_| rattle::Session::new(c))));
+    let restore = || all.borrow_mut().iter_mut().for_each(|session| session.restore(c));
+    meter.side(c, row, "session", restore, |i| assert_eq!(step(&mut all.borrow_mut()[i], black_box(c)), 0));
+    for session in all.borrow().iter() {
+        assert_eq!((session.bases(), session.tag()), (left, expected.clone()), "a session's {row} of {} bases", c.bases);
+    }
+}
+
+fn building(meter: &mut Meter, c: &Case) {
+    meter.side(c, "build", "rust", || {}, |_| drop(black_box(original::build(black_box(c)))));
+    let mut rows = rattle::TagRows::new(c);
+    meter.side(c, "build", "rattle", || {}, |_| assert_eq!(rows.build(black_box(c)), 0));
+    assert_eq!(Some(rows.tag()), original::build(c));
+}
+
+fn counting(meter: &mut Meter, c: &Case) {
+    let all_positions = c.density == Density::Dense;
+    meter.side(c, "count", "rust", || {}, |_| drop(black_box(original::count(black_box(c), all_positions))));
+    let mut rows = rattle::CountRows::new(c);
+    meter.side(c, "count", "rattle", || {}, |_| assert_eq!(rows.count(black_box(c), all_positions), 0));
+    let expected = Columns::of(&original::count(c, all_positions));
+    assert!(rows.columns == expected, "the counts of {} bases", c.bases);
+}
+
+fn measure(meter: &mut Meter, c: &Case) {
+    meter.side(c, "nothing", "driver", || {}, |i| {
+        black_box(i);
+    });
+    reading(meter, c);
+    edit(meter, c, "mask", original::mask, rattle::TagRows::mask, rattle::Session::mask, &c.masked);
+    edit(meter, c, "drop", original::drop_calls, rattle::TagRows::drop_calls, rattle::Session::drop_calls, &c.seq);
+    edit(meter, c, "cut", original::cut, rattle::TagRows::cut, rattle::Session::cut, c.window());
+    building(meter, c);
+    counting(meter, c);
+}
+
+fn main() {
+    let rounds = std::env::args().nth(1).and_then(|word| word.parse().ok()).expect("a number of rounds");
+    let mut meter = Meter { bucket: 0, rounds };
+    for bases in [150, 1_000, 16_000] {
+        for density in [Density::Dense, Density::Sparse] {
+            measure(&mut meter, &Case::new(bases, density));
+        }
+    }
+}

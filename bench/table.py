@@ -1,0 +1,107 @@
+#!/usr/bin/env python3
+"""table.py [--write] OUT: the tables of a run of the benchmark, from the counts and times in the folder OUT.
+
+With --write they take the place of those in docs/BENCHMARKS.md and README.md, between the lines that name them."""
+import glob
+import os
+import re
+import statistics
+import sys
+
+ROOT = os.path.join(os.path.dirname(os.path.abspath(__file__)), "..")
+SIZES = ["150", "1000", "16000"]
+DENSITIES = ["dense", "sparse"]
+ROWS = ["read", "mask", "drop", "cut", "build", "count"]
+EDITS = ["mask", "drop", "cut"]
+ALONE = ["check", "tally"]
+
+
+def sides(path):
+    """For each (row, bases, density, who) of a run's lines: its bucket, number of calls, and nanoseconds a call."""
+    found = {}
+    for line in open(path):
+        bucket, row, bases, density, who, calls, time = line.split()
+        found[row, bases, density, who] = bucket, int(calls), float(time)
+    return found
+
+
+def instructions(out):
+    counted = dict(line.split() for line in open(os.path.join(out, "counts")))
+    return {side: int(counted[bucket]) / calls for side, (bucket, calls, _) in sides(os.path.join(out, "counted")).items()}
+
+
+def times(out):
+    """The median of the runs for each side, and how far a run is from its median at most, as a share."""
+    runs = [{side: time for side, (_, _, time) in sides(path).items()} for path in glob.glob(os.path.join(out, "timed.*"))]
+    median = {side: statistics.median(run[side] for run in runs) for side in runs[0]}
+    spread = max(abs(run[side] / median[side] - 1) for run in runs for side in median if side[0] != "nothing")
+    return median, spread
+
+
+def number(cost, side):
+    return f"{round(cost[side]):,}" if side in cost else ""
+
+
+def ratio(cost, side, to):
+    return f"{cost[side] / cost[to]:.2f}" if side in cost and to in cost else ""
+
+
+def markdown(head, lines):
+    shown = [head, ["---"] + ["--:"] * (len(head) - 1)] + lines
+    return "".join("| " + " | ".join(line) + " |\n" for line in shown)
+
+
+def whole(cost):
+    """Every side's cost, and the ratios to the Rust's."""
+    head = ["call", "bases", "tags", "Rust", "Rattle", "x Rust", "session", "x Rust", "htslib", "Rattle x htslib"]
+    lines = []
+    for row in ROWS + ALONE:
+        for bases in SIZES:
+            for density in DENSITIES:
+                rust, rattle, session, htslib = ((row, bases, density, who) for who in ("rust", "rattle", "session", "htslib"))
+                lines.append([row, f"{int(bases):,}", density, number(cost, rust), number(cost, rattle), ratio(cost, rattle, rust),
+                              number(cost, session), ratio(cost, session, rust), number(cost, htslib), ratio(cost, rattle, htslib)])
+    return markdown(head, lines)
+
+
+def short(cost):
+    """Ratios alone, a line for a call and a column for an input."""
+    inputs = [(bases, density) for bases in SIZES for density in DENSITIES]
+    head = ["x the Rust's"] + [f"{int(bases):,} {density}" for bases, density in inputs]
+
+    def line(name, row, who="rattle", to="rust"):
+        return [name] + [ratio(cost, (row, *given, who), (row, *given, to)) for given in inputs]
+
+    lines = [line("read", "read"), line("read, x htslib's", "read", to="htslib")]
+    for row in EDITS:
+        lines += [line(row, row), line(f"{row}, a session's step", row, who="session")]
+    return markdown(head, lines + [line("build", "build"), line("count", "count")])
+
+
+def put(path, name, table):
+    """Puts a table between the lines of a file that name it."""
+    path = os.path.join(ROOT, path)
+    text = open(path).read()
+    begin, end = f"<!-- {name}, by bench/run -->\n", f"<!-- end of {name} -->\n"
+    pattern = re.escape(begin) + ".*?" + re.escape(end)
+    text, places = re.subn(pattern, lambda _: begin + table + end, text, flags=re.S)
+    if places != 1:
+        sys.exit(f"{path} has {places} places for {name}")
+    open(path, "w").write(text)
+
+
+def main():
+    write = sys.argv[1] == "--write"
+    out = sys.argv[-1]
+    count = instructions(out)
+    time, spread = times(out)
+    said = f"Largest distance of one of the runs from the median: {100 * spread:.0f} %.\n"
+    print("Instructions\n\n" + whole(count) + "\nNanoseconds\n\n" + whole(time) + "\n" + said)
+    if write:
+        put("docs/BENCHMARKS.md", "instructions", whole(count))
+        put("docs/BENCHMARKS.md", "times", short(time) + "\n" + said)
+        put("README.md", "ratios", short(count))
+
+
+if __name__ == "__main__":
+    main()

@@ -1,0 +1,159 @@
+// Whole blocks of SEQ passed at a time. A group's entry says how many bases of a letter to pass; a block that holds no more of them than are left is passed
+// by its counts alone, which takes the processor about one step for each base. A support crate: a function here may ask something of its caller
+// (`requires`).
+ghost use mathlib.Core.Path.{_≡_};
+ghost use Prim.Native.Nat.{_+_, _-_, _≤_};
+ghost use mathlib.Core.Bool.{false, true};
+ghost use mathlib.Core.Logic.{_⊎_};
+ghost use lib.ListN.{length, take, drop};
+ghost use Rattle.lent.specs.Lists.{filter};
+ghost use Rattle.samtags.specs.Spots.{holds, tracked};
+ghost use Rattle.strides.specs.Counts.{between, heldBetween, holdBoth};
+
+// A byte of SEQ counts for the base: every byte where the base is 'N', else the base itself.
+pub fn counts(base: u8, b: u8) -> bool
+    ensures { λ r. ⌜ r ≡ holds base b ⌝ }
+{
+    base == b'N' || b == base
+}
+
+// How many bytes of a block from a place on are the base. The count is kept in a byte, of which sixteen are added in one step.
+fn count_block(seq: &[u8], from: usize, size: usize, base: u8) -> usize
+    requires { ⌜ (from + size ≤ length (now seq)) × (size ≤ 128) × (base ≡ 78 → ⊥) ⌝ }
+    ensures { λ r. ⌜ r ≡ length (filter (holds base) (take size (drop from (now (seq .entry))))) ⌝ }
+{
+    let mut n: u8 = 0;
+    let mut i = 0;
+    while i < size {
+        let hit = seq[from + i] == base;
+        n = n + hit as u8;
+        i += 1;
+    }
+    n as usize
+}
+
+// How many of 32 places hold the base in SEQ and in what stands after it.
+fn both_in_block(seq: &[u8], from: usize, after: &[u8], there: usize, base: u8) -> usize
+    requires { ⌜ (from + 32 ≤ length (now seq)) × (there + 32 ≤ length (now after)) × (base ≡ 78 → ⊥) ⌝ }
+    ensures { λ r. ⌜ r ≡ holdBoth base (take 32 (drop from (now (seq .entry)))) (take 32 (drop there (now (after .entry)))) ⌝ }
+{
+    let mut n: u8 = 0;
+    let mut i = 0;
+    while i < 32 {
+        let first = seq[from + i] == base;
+        let second = after[there + i] == base;
+        n = n + (first & second) as u8;
+        i += 1;
+    }
+    n as usize
+}
+
+// The window's start or its end lies inside the block at a place: such a block is passed base by base.
+fn is_split(place: usize, lo: usize, window: usize) -> bool
+    requires { ⌜ place + 32 ≤ 16000 ⌝ }
+    ensures { λ r. ⌜ (r ≡ false → (place + 32 ≤ lo) ⊎ ((lo ≤ place) × ((window ≤ place - lo) ⊎ (place - lo + 32 ≤ window)))) ⌝ }
+{
+    if place < lo {
+        return lo < place + 32;
+    }
+    let there = place - lo;
+    if window <= there {
+        return false;
+    }
+    window - there < 32
+}
+
+// How many of the group's bases of a block are still held: none outside the window.
+fn held_in_block(seq: &[u8], after: &[u8], lo: usize, base: u8, place: usize) -> usize
+    requires { ⌜ (place + 32 ≤ length (now seq)) × (base ≡ 78 → ⊥)
+        × ((place + 32 ≤ lo) ⊎ ((lo ≤ place) × ((length (now after) ≤ place - lo) ⊎ (place - lo + 32 ≤ length (now after))))) ⌝ }
+    ensures { λ r. ⌜ r ≡ heldBetween lo (now (after .entry)) base (now (seq .entry)) place (place + 32) ⌝ }
+{
+    if place < lo {
+        return 0;
+    }
+    let there = place - lo;
+    if after.len() <= there {
+        return 0;
+    }
+    both_in_block(seq, place, after, there, base)
+}
+
+// How far a walk came: the place it stands at, how many of the bases to pass it has passed, and how many of those are still held.
+pub struct Stride {
+    pub place: usize,
+    pub passed: usize,
+    pub held: usize,
+}
+
+// From a place on, passes blocks while each holds no more of the group's bases than are left to pass; the last few are sooner passed one by one.
+pub fn pass_blocks(
+    seq: &[u8],
+    after: &[u8],
+    lo: usize,
+    base: u8,
+    from: usize,
+    skip: usize,
+) -> Stride
+    requires { ⌜ (from ≤ length (now seq)) × (length (now seq) ≤ 16000) × (base ≡ 78 → ⊥) ⌝ }
+    ensures { λ r. ⌜ (from ≤ r .place) × (r .place ≤ length (now (seq .entry))) × (r .passed ≤ skip)
+        × (r .passed ≡ length (between base (now (seq .entry)) from (r .place)))
+        × (r .held ≡ heldBetween lo (now (after .entry)) base (now (seq .entry)) from (r .place)) ⌝ }
+{
+    let mut place = from;
+    let mut passed = 0;
+    let mut held = 0;
+    while is_far(skip - passed, seq.len() - place) {
+        let split = is_split(place, lo, after.len());
+        let n = count_block(seq, place, 32, base);
+        if split {
+            return Stride {
+                place: place,
+                passed: passed,
+                held: held,
+            };
+        }
+        if skip - passed < n {
+            return Stride {
+                place: place,
+                passed: passed,
+                held: held,
+            };
+        }
+        held = held + held_in_block(seq, after, lo, base, place);
+        passed = passed + n;
+        place = place + 32;
+    }
+    Stride {
+        place: place,
+        passed: passed,
+        held: held,
+    }
+}
+
+// There are more than a few bases to pass, and a whole block ahead.
+fn is_far(skip: usize, bases: usize) -> bool
+    ensures { λ r. ⌜ (r ≡ true → 32 ≤ bases) ⌝ }
+{
+    if skip < 6 {
+        return false;
+    }
+    32 <= bases
+}
+
+// How many bases of SEQ a group on the base counts.
+pub fn how_many(seq: &[u8], base: u8) -> usize
+    requires { ⌜ length (now seq) ≤ 16000 ⌝ }
+    ensures { λ r. ⌜ r ≡ length (tracked base (now (seq .entry))) ⌝ }
+{
+    if base == b'N' {
+        return seq.len();
+    }
+    let mut n = 0;
+    let mut i = 0;
+    while 128 <= seq.len() - i {
+        n = n + count_block(seq, i, 128, base);
+        i = i + 128;
+    }
+    n + count_block(seq, i, seq.len() - i, base)
+}

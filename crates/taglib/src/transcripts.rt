@@ -1,0 +1,20 @@
+// The program `tagedit` as a function.
+ghost use mathlib.Core.Path.{_≡_};
+ghost use lib.ListN.{length};
+ghost use Rattle.lent.specs.Filled.{over};
+ghost use Rattle.transcript.specs.Transcript.{transcriptOf};
+
+// What `tagedit` prints for a whole input, at the front of `out`; the answer is its length. The other rows are to work in.
+#[no_mangle]
+pub extern "C" fn aql_transcript(
+    input: &[u8],
+    seq: &mut [u8; 16000],
+    mm: &mut [u8; 65536],
+    ml: &mut [u8; 32768],
+    out: &mut [u8; 81925],
+) -> usize
+    ensures { λ r. ⌜ (r ≡ length (transcriptOf (now (input .entry))))
+        × (now (out .exit) ≡ over (transcriptOf (now (input .entry))) (now (out .entry))) ⌝ }
+{
+    transcript::transcript(input, seq, mm, ml, out)
+}

@@ -1,0 +1,4 @@
+pub mod Handed
+pub mod HandedReadings
+pub mod HandedSteps
+pub mod HandedTags
