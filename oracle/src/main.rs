@@ -1,4 +1,4 @@
-//! Answers the requests of the program `ask` by running the Rust files of docs/src, unchanged.
+//! Answers the requests of the program `ask` by running the Rust's files, unchanged.
 //!
 //! One line in, one line out:
 //!

@@ -5,7 +5,6 @@ use alignment::fetch_ref_bases_at_positions;
 use alignment::is_cpg_context;
 use alignment::query_to_ref_positions;
 use asking::arrays;
-use asking::rows;
 use asking::text;
 use asking::text::Number;
 use asking::text::Signed;
@@ -47,8 +46,8 @@ pub fn answer_q(line: &[u8], out: &mut [u8]) -> usize
         return reply::unknown(out);
     };
     let mut words = arrays::words();
-    let n = rows::counts(text::field(line, 1), &mut words);
-    if n == rows::NO_ROW {
+    let n = asking_rows::counts(text::field(line, 1), &mut words);
+    if n == asking_rows::NO_ROW {
         return reply::unknown(out);
     }
     let mut found = marked::read_places();
@@ -113,8 +112,8 @@ pub fn answer_cpg(line: &[u8], out: &mut [u8]) -> usize
         return reply::unknown(out);
     };
     let mut reference = arrays::text();
-    let n = rows::bytes(text::field(line, 1), &mut reference);
-    if n == rows::NO_ROW {
+    let n = asking_rows::bytes(text::field(line, 1), &mut reference);
+    if n == asking_rows::NO_ROW {
         return reply::unknown(out);
     }
     let is = is_cpg(&reference, n, pos, is_top_strand);
@@ -139,10 +138,10 @@ pub fn answer_fetch(line: &[u8], out: &mut [u8]) -> usize
         return reply::unknown(out);
     };
     let mut places = arrays::places();
-    let n = rows::places(text::field(line, 1), &mut places);
+    let n = asking_rows::places(text::field(line, 1), &mut places);
     let mut reference = arrays::text();
-    let k = rows::bytes(text::field(line, 2), &mut reference);
-    if n == rows::NO_ROW || k == rows::NO_ROW {
+    let k = asking_rows::bytes(text::field(line, 2), &mut reference);
+    if n == asking_rows::NO_ROW || k == asking_rows::NO_ROW {
         return reply::unknown(out);
     }
     let mut found = marked::text();

@@ -10,10 +10,9 @@ ghost use Rattle.samtags.specs.Session.{mask, dropCalls};
 ghost use Rattle.stepping.specs.Steps.{Ordered, memory};
 ghost use Rattle.lines.specs.Lines.{numbersOf, given, cutOf, stepOf};
 ghost use Rattle.answering.specs.Answers.{answerOf, LineAnswered};
-use lines::numbers::Ends;
+use operands::Ends;
 use stepping::Lengths;
 use stepping::Stepped;
-use stepping::steps;
 
 // What a line comes to: it is bad, or it was answered with a number, and the session's lengths are then these.
 pub enum Answered {
@@ -45,13 +44,13 @@ fn mask_line(
         (memory (now (seq .entry)) (now (mm .entry)) (now (ml .entry)) lengths) r (now (seq .exit)) (now (mm .exit)) (now (ml .exit)) ⌝ }
 {
     let n = lengths.seq;
-    let mut after = changing::changes::no_marks();
-    changing::entries::put_all(&mut after, 0, &seq[0..n]);
-    let good = lines::numbers::put_listed(body, &mut after, b'N');
+    let mut after = changing::no_marks();
+    entries::put_all(&mut after, 0, &seq[0..n]);
+    let good = operands::put_listed(body, &mut after, b'N');
     if !good {
         return Answered::Bad;
     }
-    let step = steps::mask_to(seq, mm, ml, has_ml, lengths, &after[0..n]);
+    let step = masking::mask_to(seq, mm, ml, has_ml, lengths, &after[0..n]);
     step_answer(step, lengths)
 }
 
@@ -68,12 +67,12 @@ fn drop_line(
     ensures { λ r. ⌜ LineAnswered «has_ml» (given (numbersOf 4294967295 (now (body .entry))) none (λ ns. some (dropCalls ns)))
         (memory (now (seq .entry)) (now (mm .entry)) (now (ml .entry)) lengths) r (now (seq .entry)) (now (mm .exit)) (now (ml .exit)) ⌝ }
 {
-    let mut marks = changing::changes::no_marks();
-    let good = lines::numbers::put_listed(body, &mut marks, 1);
+    let mut marks = changing::no_marks();
+    let good = operands::put_listed(body, &mut marks, 1);
     if !good {
         return Answered::Bad;
     }
-    let step = steps::drop_marked(seq, mm, ml, has_ml, lengths, &marks);
+    let step = dropping::drop_marked(seq, mm, ml, has_ml, lengths, &marks);
     step_answer(step, lengths)
 }
 
@@ -90,11 +89,11 @@ fn cut_line(
     ensures { λ r. ⌜ LineAnswered «has_ml» (given (numbersOf 4294967295 (now (body .entry))) none cutOf)
         (memory (now (seq .entry)) (now (mm .entry)) (now (ml .entry)) lengths) r (now (seq .exit)) (now (mm .exit)) (now (ml .exit)) ⌝ }
 {
-    let ends = lines::numbers::read_ends(body);
+    let ends = operands::read_ends(body);
     let Ends::Of(front, back) = ends else {
         return Answered::Bad;
     };
-    let step = steps::cut_ends(seq, mm, ml, has_ml, lengths, front, back);
+    let step = cutting::cut_ends(seq, mm, ml, has_ml, lengths, front, back);
     step_answer(step, lengths)
 }
 
@@ -111,16 +110,16 @@ pub fn answer_line(
     ensures { λ r. ⌜ LineAnswered «has_ml» (stepOf (now (line .entry)))
         (memory (now (seq .entry)) (now (mm .entry)) (now (ml .entry)) lengths) r (now (seq .exit)) (now (mm .exit)) (now (ml .exit)) ⌝ }
 {
-    let body = lines::input::body_of(line);
-    let masks = lines::input::has_mark(line, b'M', b'K');
+    let body = lines::body_of(line);
+    let masks = lines::has_mark(line, b'M', b'K');
     if masks {
         return mask_line(body, seq, mm, ml, has_ml, lengths);
     }
-    let drops = lines::input::has_mark(line, b'D', b'R');
+    let drops = lines::has_mark(line, b'D', b'R');
     if drops {
         return drop_line(body, seq, mm, ml, has_ml, lengths);
     }
-    let cuts = lines::input::has_mark(line, b'C', b'U');
+    let cuts = lines::has_mark(line, b'C', b'U');
     if cuts {
         return cut_line(body, seq, mm, ml, has_ml, lengths);
     }

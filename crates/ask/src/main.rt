@@ -1,4 +1,4 @@
-// `ask`: answers requests on standard input, one a line, so that every public call can be held against the Rust, a model, or anybody's own
+// `ask`: answers requests on standard input, one a line, so that the library's calls can be held against the Rust, a model, or anybody's own
 // cases. A line is fields with tabs between; its answer is a line: the number of the scope and the fields of what was asked, or `?` where
 // the line is no request or is longer than the buffer. oracle/README.md says what a request may hold.
 //

@@ -3,7 +3,6 @@
 ghost use Prim.Native.Nat.{_≤_};
 ghost use lib.ListN.{length};
 use asking::arrays;
-use asking::rows;
 use asking::text;
 use asking::text::Number;
 use asking::text::TwoRooms;
@@ -42,7 +41,7 @@ fn read_seq(line: &[u8], with_ml: bool, text_room: usize, ml_room: usize, out: &
 {
     let mut seq = arrays::bases();
     let n = seq_behind_letters(line, &mut seq);
-    if n == rows::NO_ROW {
+    if n == asking_rows::NO_ROW {
         return reply::unknown(out);
     }
     let s = text::at_most(n, 16001);
@@ -52,12 +51,12 @@ fn read_seq(line: &[u8], with_ml: bool, text_room: usize, ml_room: usize, out: &
 // Reads SEQ, where the two fields before it are the letters of a pattern and a chemistry.
 fn seq_behind_letters(line: &[u8], seq: &mut [u8]) -> usize {
     if !text::is_pattern(text::field(line, 1)) {
-        return rows::NO_ROW;
+        return asking_rows::NO_ROW;
     }
     if !text::is_mode(text::field(line, 2)) {
-        return rows::NO_ROW;
+        return asking_rows::NO_ROW;
     }
-    rows::bytes(text::field(line, 3), seq)
+    asking_rows::bytes(text::field(line, 3), seq)
 }
 
 fn read_columns(
@@ -73,8 +72,8 @@ fn read_columns(
     let mut informative = arrays::bases();
     let mut unconverted = arrays::counts();
     let mut converted = arrays::counts();
-    let n = rows::columns(line, 4, &mut informative, &mut unconverted, &mut converted);
-    if n.informative == rows::NO_ROW {
+    let n = asking_rows::columns(line, 4, &mut informative, &mut unconverted, &mut converted);
+    if n.informative == asking_rows::NO_ROW {
         return reply::unknown(out);
     }
     let i = text::at_most(n.informative, 16001);

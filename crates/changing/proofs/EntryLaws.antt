@@ -2,9 +2,9 @@
 -- Assumes nothing.
 use mathlib.Core.Path.{_≡_, refl, sym, ap, _∙_}
 use Prim.Native.Nat.{ℕ, suc, _+_, _-_, _≤_, _<_, min}
-use native.Mathlib.Nat.{add-zero}
+use native.Mathlib.Nat.{add-zero, sub-zero}
 use native.Mathlib.Omega.{arith}
-use mathlib.Core.Bool.{Bool, true, false, cond, not}
+use mathlib.Core.Bool.{Bool, true, false, cond, not, _||_}
 use mathlib.Core.List.{List, [], _∷_, _++_}
 use mathlib.Core.Option.{none}
 use lib.Dec.{leb}
@@ -21,10 +21,11 @@ use Rattle.samtags.specs.Decimal.{isNumber, value}
 use Rattle.samtags.specs.Reading.{readEntry}
 use Rattle.samtags.specs.Spots.{holds}
 use Rattle.strides.proofs.StrideLaws.{between-rest}
-use Rattle.strides.specs.Counts.{between, heldBetween}
-use Rattle.tagtext.proofs.TextLaws.{entry-eight, entry-refused, entry-ten, entry-went}
-use Rattle.tagtext.proofs.WalkLaws.{behind-passed, entry-on, entry-seven, entry-six, found-at, found-end, found-miss, tracked-few}
-use Rattle.tagtext.specs.Walk.{entryAt, firstOf, trackedFrom}
+use Rattle.strides.specs.Counts.{Told, between, heldBetween}
+use Rattle.strides.specs.declared.Window.{Window}
+use Rattle.places.proofs.TextLaws.{entry-eight, entry-refused, entry-ten, entry-went}
+use Rattle.places.proofs.WalkLaws.{behind-passed, entry-on, entry-seven, entry-six, found-at, found-end, found-miss, tracked-few}
+use Rattle.places.specs.Walk.{entryAt, firstOf, trackedFrom}
 use Rattle.changing.specs.Drafts.{passing, withPassed}
 use Rattle.changing.specs.Windows.{deniedIn, heldIn, isMarked}
 
@@ -42,6 +43,19 @@ module _ (lo : ℕ) (after : List ℕ) (b p : ℕ) where
   pub held-inside : lo ≤ p → p - lo < length after → heldIn lo after b p ≡ holds b (getD after (p - lo) 0)
   unfolding heldIn
   held-inside h k = rw (le-leb lo p h, lt-ltb p (lo + length after) (omega arith))
+
+-- of a base of SEQ need not be asked whether it is held where what stands after is SEQ itself
+pub held-anyway : (w : Window) (after seq : List ℕ) (b p : ℕ) → Told w after seq → p < length seq → holds b (getD seq p 0) ≡ true
+    → w .same || heldIn (w .lo) after b p ≡ heldIn (w .lo) after b p
+held-anyway w after seq b p told l h = go (w .same) refl
+  where
+    go : (s : Bool) → w .same ≡ s → s || heldIn (w .lo) after b p ≡ heldIn (w .lo) after b p
+    go true e =
+        let start = told e .0 in
+        let row = told e .1 in
+        let low : p - 0 < length seq = omega arith in
+        sym ((λ j. heldIn (start j) (row j) b p) ∙ held-inside 0 seq b p (omega arith) low ∙ rw (sub-zero p) h)
+    go false e = refl
 
 module _ (marks : List ℕ) (may-drop : Bool) (p : ℕ) where
   pub denied-open : may-drop ≡ true → deniedIn marks may-drop p ≡ false

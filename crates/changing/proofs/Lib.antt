@@ -1,3 +1,2 @@
 pub mod EntryLaws
-pub mod PutLaws
 pub mod WindowLaws

@@ -1,4 +1,4 @@
--- Whether a cut is one, byte by byte; and the three edits as one: a mask and a drop are windows that cut nothing off.
+-- The three edits as one: a mask and a drop are windows that cut nothing off.
 -- Assumes nothing.
 use mathlib.Core.Path.{_≡_, refl, sym, ap, _∙_}
 use Prim.Native.Nat.{ℕ, zero, suc, _+_, _-_, _≤_, _<_}
@@ -15,7 +15,7 @@ use Rattle.lent.proofs.Tests.{by-test}
 use Rattle.lent.specs.Lists.{among}
 use Rattle.samtags.proofs.Places.{inside-true, places-pass, tracked-inside}
 use Rattle.samtags.proofs.SameEdit.{edited-same}
-use Rattle.samtags.specs.Edits.{cutTo, droppingAt, edited, isMasked, liesIn, maskedTo, sameBytes}
+use Rattle.samtags.specs.Edits.{cutTo, droppingAt, edited, isMasked, liesIn, maskedTo}
 use Rattle.samtags.specs.Meaning.{inside}
 use Rattle.samtags.specs.Reading.{nowhere}
 use Rattle.samtags.specs.Spots.{holds, tracked}
@@ -23,51 +23,6 @@ use Rattle.samtags.specs.Bytes.{letterN}
 use Rattle.samtags.specs.Session.{maskFrom, masked}
 use Rattle.changing.proofs.EntryLaws.{held-inside}
 use Rattle.changing.specs.Windows.{heldIn, isMarked, markedAt, storedAt, windowEdit}
-
--- ---- the same bytes
-
-pub same-lengths : (a b : List ℕ) → (length a ≡ length b → ⊥) → sameBytes a b ≡ false
-same-lengths [] [] h = absurd (h refl)
-same-lengths [] (y ∷ b) h = refl
-same-lengths (x ∷ a) [] h = refl
-same-lengths (x ∷ a) (y ∷ b) h = rw (same-lengths a b (λ e. h (ap suc e))) (by-test (eqb x y) (λ e. rw e) (λ e. rw e))
-
-module _ (a b : List ℕ) (i : ℕ) where
-  pub same-end : length a ≤ i → length b ≤ i → sameBytes (drop i a) (drop i b) ≡ true
-  same-end h k = rw (drop-of-length-le a h, drop-of-length-le b k)
-
-  module _ (h : i < length a) (k : i < length b) where
-    pub same-on : getD a i 0 ≡ getD b i 0 → sameBytes (drop i a) (drop i b) ≡ sameBytes (drop (i + 1) a) (drop (i + 1) b)
-    same-on e = rw (drop-here a i 0 h, drop-here b i 0 k, eq-eqb (getD a i 0) (getD b i 0) e)
-
-    pub same-stop : (getD a i 0 ≡ getD b i 0 → ⊥) → sameBytes (drop i a) (drop i b) ≡ false
-    same-stop e = rw (drop-here a i 0 h, drop-here b i 0 k, ne-eqb (getD a i 0) (getD b i 0) e)
-
--- ---- a window
-
-pub lies-short : (after seq : List ℕ) → length seq < length after → liesIn after seq ≡ false
-lies-short [] seq h = absurd (omega arith)
-lies-short (x ∷ xs) [] h = refl
-lies-short (x ∷ xs) (y ∷ ys) h = rw (lies-short xs ys (omega arith)) (by-test (eqb x y || isMasked x) (λ e. rw e) (λ e. rw e))
-
-module _ (after seq : List ℕ) (lo i : ℕ) where
-  pub lies-end : length after ≤ i → liesIn (drop i after) (drop (lo + i) seq) ≡ true
-  lies-end h = rw (drop-of-length-le after h)
-
-  module _ (h : i < length after) (k : lo + i < length seq) where
-    here : liesIn (drop i after) (drop (lo + i) seq)
-        ≡ (eqb (getD after i 0) (getD seq (lo + i) 0) || isMasked (getD after i 0)) && liesIn (drop (i + 1) after) (drop (lo + (i + 1)) seq)
-    here =
-        let sum : lo + i + 1 ≡ lo + (i + 1) = omega arith in
-        rw (drop-here after i 0 h, drop-here seq (lo + i) 0 k, sum)
-
-    pub lies-on : eqb (getD after i 0) (getD seq (lo + i) 0) || isMasked (getD after i 0) ≡ true
-        → liesIn (drop i after) (drop (lo + i) seq) ≡ liesIn (drop (i + 1) after) (drop (lo + (i + 1)) seq)
-    lies-on e = here ∙ rw e
-
-    pub lies-stop : eqb (getD after i 0) (getD seq (lo + i) 0) || isMasked (getD after i 0) ≡ false
-        → liesIn (drop i after) (drop (lo + i) seq) ≡ false
-    lies-stop e = here ∙ rw e
 
 -- ---- marks
 

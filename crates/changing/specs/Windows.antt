@@ -1,11 +1,11 @@
 -- One kind of edit serves all three: SEQ became `after`, which begins at place lo, and the calls at the marked places are dropped.
 -- Assumes nothing.
-use Prim.Native.Nat.{ℕ, _+_, _-_}
+use Prim.Native.Nat.{ℕ}
 use mathlib.Core.Path.{_≡_}
 use mathlib.Core.Bool.{Bool, false, not, _&&_}
 use mathlib.Core.List.{List, [], _∷_}
 use lib.ListN.{length, getD, set}
-use lib.Dec.{leb, ltb, eqb}
+use lib.Dec.{eqb}
 use Rattle.samtags.specs.Spots.{holds}
 use Rattle.samtags.specs.Edits.{Edit}
 use Rattle.strides.specs.Counts.{heldThere}

@@ -5,14 +5,23 @@ ghost use lib.ListN.{length};
 use crate::show;
 use asking::text;
 use duplex::duplex_methylation_tags;
+use pattern::ConversionPattern;
+use pattern::MethylationMode;
 use replying::marked;
+
+// What a request says beside its rows.
+pub struct Asked {
+    pub strands: usize,
+    pub mode: MethylationMode,
+    pub first: ConversionPattern,
+    pub second: ConversionPattern,
+    pub text_room: usize,
+    pub ml_room: usize,
+}
 
 // Lends the rows of the joined tags.
 pub fn joined_rows(
-    line: &[u8],
-    strands: usize,
-    text_room: usize,
-    ml_room: usize,
+    asked: Asked,
     bases: &[u8],
     first_informative: &[u8],
     first_unconverted: &[u32],
@@ -29,11 +38,10 @@ pub fn joined_rows(
     let mut ml = marked::text();
     let mut cu = marked::tag_counts();
     let mut ct = marked::tag_counts();
-    let t = text::at_most(text_room, 65537);
-    let m = text::at_most(ml_room, 65537);
+    let t = text::at_most(asked.text_room, 65537);
+    let m = text::at_most(asked.ml_room, 65537);
     strand_rows(
-        line,
-        strands,
+        asked,
         t,
         bases,
         first_informative,
@@ -53,8 +61,7 @@ pub fn joined_rows(
 
 // Lends the rows of each strand's own tags.
 fn strand_rows(
-    line: &[u8],
-    strands: usize,
+    asked: Asked,
     text_room: usize,
     bases: &[u8],
     first_informative: &[u8],
@@ -80,8 +87,7 @@ fn strand_rows(
     let mut second_cu = marked::tag_counts();
     let mut second_ct = marked::tag_counts();
     tags(
-        line,
-        strands,
+        asked,
         bases,
         first_informative,
         first_unconverted,
@@ -105,8 +111,7 @@ fn strand_rows(
 }
 
 fn tags(
-    line: &[u8],
-    strands: usize,
+    asked: Asked,
     bases: &[u8],
     first_informative: &[u8],
     first_unconverted: &[u32],
@@ -129,15 +134,18 @@ fn tags(
 ) -> usize
     ensures { λ r. ⌜ r ≤ length (now (out .exit)) ⌝ }
 {
+    let mode = asked.mode;
+    let first = asked.first;
+    let second = asked.second;
     let r = duplex_methylation_tags(
         bases,
-        strands,
-        text::mode_of(text::field(line, 1)),
-        text::pattern_of(text::field(line, 3)),
+        asked.strands,
+        mode,
+        first,
         first_informative,
         first_unconverted,
         first_converted,
-        text::pattern_of(text::field(line, 7)),
+        second,
         second_informative,
         second_unconverted,
         second_converted,
@@ -155,7 +163,7 @@ fn tags(
     );
     show::show(
         r,
-        strands,
+        asked.strands,
         seq,
         mm,
         ml,

@@ -1,11 +1,11 @@
 // `DUP mode seq` and then `pattern inf unc con` for each strand, of which a request has 0 to 3. The call takes two: a strand that is missing has
 // empty columns, and a third is only looked at. Whether the line is such a request is seen first; then each function reads some more of it into rows
-// of its own, and passes on what it read. The letters are read where the library is asked.
+// of its own, and passes on what it read.
 ghost use Prim.Native.Nat.{_≤_};
 ghost use lib.ListN.{length};
 use crate::lend;
+use crate::lend::Asked;
 use asking::arrays;
-use asking::rows;
 use asking::text;
 use asking::text::TwoRooms;
 use replying::reply;
@@ -24,7 +24,19 @@ pub fn answer_dup(line: &[u8], out: &mut [u8]) -> usize
     if !are_strands(line, strands) {
         return reply::unknown(out);
     }
-    read_seq(line, strands, t as usize, m as usize, out)
+    read_seq(line, asked_of(line, strands, t as usize, m as usize), out)
+}
+
+// What the request says beside its rows.
+fn asked_of(line: &[u8], strands: usize, text_room: usize, ml_room: usize) -> Asked {
+    Asked {
+        strands: strands,
+        mode: text::mode_of(text::field(line, 1)),
+        first: text::pattern_of(text::field(line, 3)),
+        second: text::pattern_of(text::field(line, 7)),
+        text_room: text_room,
+        ml_room: ml_room,
+    }
 }
 
 // How many strands a line of so many fields has, a room apart; more than 3 where there is no SEQ.
@@ -62,28 +74,28 @@ fn are_columns(line: &[u8], k: usize) -> bool
     let mut informative = arrays::bases();
     let mut unconverted = arrays::counts();
     let mut converted = arrays::counts();
-    let n = rows::columns(line, k, &mut informative, &mut unconverted, &mut converted);
-    n.informative != rows::NO_ROW
+    let n = asking_rows::columns(line, k, &mut informative, &mut unconverted, &mut converted);
+    n.informative != asking_rows::NO_ROW
 }
 
-fn read_seq(line: &[u8], strands: usize, text_room: usize, ml_room: usize, out: &mut [u8]) -> usize
+fn read_seq(line: &[u8], asked: Asked, out: &mut [u8]) -> usize
     ensures { λ r. ⌜ r ≤ length (now (out .exit)) ⌝ }
 {
     let mut bases = arrays::bases();
     let n = bases_behind_letter(line, &mut bases);
-    if n == rows::NO_ROW {
+    if n == asking_rows::NO_ROW {
         return reply::unknown(out);
     }
     let b = text::at_most(n, 16001);
-    read_first(line, strands, text_room, ml_room, &bases[0..b], out)
+    read_first(line, asked, &bases[0..b], out)
 }
 
 // Reads SEQ, where the field before it is the letter of a chemistry.
 fn bases_behind_letter(line: &[u8], bases: &mut [u8]) -> usize {
     if !text::is_mode(text::field(line, 1)) {
-        return rows::NO_ROW;
+        return asking_rows::NO_ROW;
     }
-    rows::bytes(text::field(line, 2), bases)
+    asking_rows::bytes(text::field(line, 2), bases)
 }
 
 // ---- a strand's columns; none where there is no such strand
@@ -92,7 +104,7 @@ fn marks(line: &[u8], there: bool, k: usize, row: &mut [u8]) -> usize
     ensures { λ r. ⌜ r ≤ 16001 ⌝ }
 {
     if there {
-        return text::at_most(rows::bytes(text::field(line, k), row), 16001);
+        return text::at_most(asking_rows::bytes(text::field(line, k), row), 16001);
     }
     0
 }
@@ -101,32 +113,23 @@ fn counts(line: &[u8], there: bool, k: usize, row: &mut [u32]) -> usize
     ensures { λ r. ⌜ r ≤ 16001 ⌝ }
 {
     if there {
-        return text::at_most(rows::counts(text::field(line, k), row), 16001);
+        return text::at_most(asking_rows::counts(text::field(line, k), row), 16001);
     }
     0
 }
 
-fn read_first(
-    line: &[u8],
-    strands: usize,
-    text_room: usize,
-    ml_room: usize,
-    bases: &[u8],
-    out: &mut [u8],
-) -> usize
+fn read_first(line: &[u8], asked: Asked, bases: &[u8], out: &mut [u8]) -> usize
     ensures { λ r. ⌜ r ≤ length (now (out .exit)) ⌝ }
 {
     let mut informative = arrays::bases();
     let mut unconverted = arrays::counts();
     let mut converted = arrays::counts();
-    let i = marks(line, 0 < strands, 4, &mut informative);
-    let u = counts(line, 0 < strands, 5, &mut unconverted);
-    let c = counts(line, 0 < strands, 6, &mut converted);
+    let i = marks(line, 0 < asked.strands, 4, &mut informative);
+    let u = counts(line, 0 < asked.strands, 5, &mut unconverted);
+    let c = counts(line, 0 < asked.strands, 6, &mut converted);
     read_second(
         line,
-        strands,
-        text_room,
-        ml_room,
+        asked,
         bases,
         &informative[0..i],
         &unconverted[0..u],
@@ -137,9 +140,7 @@ fn read_first(
 
 fn read_second(
     line: &[u8],
-    strands: usize,
-    text_room: usize,
-    ml_room: usize,
+    asked: Asked,
     bases: &[u8],
     first_informative: &[u8],
     first_unconverted: &[u32],
@@ -151,14 +152,11 @@ fn read_second(
     let mut informative = arrays::bases();
     let mut unconverted = arrays::counts();
     let mut converted = arrays::counts();
-    let i = marks(line, 1 < strands, 8, &mut informative);
-    let u = counts(line, 1 < strands, 9, &mut unconverted);
-    let c = counts(line, 1 < strands, 10, &mut converted);
+    let i = marks(line, 1 < asked.strands, 8, &mut informative);
+    let u = counts(line, 1 < asked.strands, 9, &mut unconverted);
+    let c = counts(line, 1 < asked.strands, 10, &mut converted);
     lend::joined_rows(
-        line,
-        strands,
-        text_room,
-        ml_room,
+        asked,
         bases,
         first_informative,
         first_unconverted,

@@ -1,2 +1,1 @@
-pub mod DraftLaws
 pub mod TagLaws

@@ -29,10 +29,10 @@ use Rattle.changing.specs.Windows.{isMarked}
 use Rattle.measuring.specs.Counting.{groupsCounted}
 use Rattle.editing.specs.Rewrote.{leavesTag, rewrote, valuesWith}
 use Rattle.editing.specs.Tags.{TagMeasured}
-use Rattle.editing.specs.Walks.{TagEdited, editedGroups, tagPut}
-use Rattle.editing.specs.declared.walk.Cursor.{Cursor}
-use Rattle.editing.specs.declared.walk.Edited.{Edited}
-use Rattle.editing.specs.declared.walk.Edited.the-variants.{To, Refused}
+use Rattle.drafting.specs.Walks.{TagEdited, editedGroups, tagPut}
+use Rattle.drafting.specs.declared.Cursor.{Cursor}
+use Rattle.drafting.specs.declared.Edited.{Edited}
+use Rattle.drafting.specs.declared.Edited.the-variants.{To, Refused}
 
 -- ---- what is asked of a text before its groups
 

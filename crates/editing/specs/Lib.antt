@@ -1,3 +1,2 @@
-pub mod Walks
 pub mod Rewrote
 pub mod Tags

@@ -3,8 +3,8 @@
 use mathlib.Core.Path.{_≡_}
 use Rattle.lent.specs.Outcome.{Outcome, refused, done, onDone}
 use Rattle.samtags.specs.Writing.{Tag, sizesOf}
-use Rattle.editing.specs.declared.walk.Edited.{Edited}
-use Rattle.editing.specs.declared.walk.Edited.the-variants.{To, Refused}
+use Rattle.drafting.specs.declared.Edited.{Edited}
+use Rattle.drafting.specs.declared.Edited.the-variants.{To, Refused}
 
 -- o is what the first walk's answer says of the whole tag
 abbrev pub TagMeasured : Outcome Tag → Edited → Type 0

@@ -6,7 +6,6 @@ use annotation::converted_counts;
 use annotation::truncate;
 use annotation::unconverted_counts;
 use asking::arrays;
-use asking::rows;
 use asking::text;
 use asking::text::Number;
 use lent::Written;
@@ -65,8 +64,8 @@ fn read_columns(line: &[u8], k: usize, work: Work, out: &mut [u8]) -> usize
     let mut informative = arrays::bases();
     let mut unconverted = arrays::counts();
     let mut converted = arrays::counts();
-    let n = rows::columns(line, k, &mut informative, &mut unconverted, &mut converted);
-    if n.informative == rows::NO_ROW {
+    let n = asking_rows::columns(line, k, &mut informative, &mut unconverted, &mut converted);
+    if n.informative == asking_rows::NO_ROW {
         return reply::unknown(out);
     }
     let i = text::at_most(n.informative, 16001);

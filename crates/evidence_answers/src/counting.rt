@@ -5,7 +5,6 @@ ghost use lib.ListN.{length};
 use crate::sizes;
 use annotation::annotate_simplex_methylation;
 use asking::arrays;
-use asking::rows;
 use asking::text;
 use asking::text::Pattern;
 use asking::text::YesNo;
@@ -20,8 +19,8 @@ pub fn answer_ann(line: &[u8], out: &mut [u8]) -> usize
     ensures { λ r. ⌜ r ≤ length (now (out .exit)) ⌝ }
 {
     let mut refrow = arrays::text();
-    let n = rows::bases(text::field(line, 4), &mut refrow);
-    if n == rows::NO_ROW {
+    let n = asking_rows::bases(text::field(line, 4), &mut refrow);
+    if n == asking_rows::NO_ROW {
         return reply::unknown(out);
     }
     let k = text::at_most(n, 65537);
@@ -33,8 +32,8 @@ fn read_reads(line: &[u8], refrow: &[u8], out: &mut [u8]) -> usize
 {
     let mut lengths = arrays::read_lengths();
     let mut bases = arrays::text();
-    let reads = rows::joined(text::field(line, 5), &mut lengths, &mut bases);
-    if reads.items == rows::NO_ROW {
+    let reads = asking_rows::joined(text::field(line, 5), &mut lengths, &mut bases);
+    if reads.items == asking_rows::NO_ROW {
         return reply::unknown(out);
     }
     let n = text::at_most(reads.items, 4097);
@@ -47,8 +46,8 @@ fn read_aligned(line: &[u8], refrow: &[u8], lengths: &[u32], bases: &[u8], out: 
 {
     let mut items = arrays::item_lengths();
     let mut aligned = arrays::text();
-    let all = rows::joined(text::field(line, 6), &mut items, &mut aligned);
-    if all.items == rows::NO_ROW {
+    let all = asking_rows::joined(text::field(line, 6), &mut items, &mut aligned);
+    if all.items == asking_rows::NO_ROW {
         return reply::unknown(out);
     }
     let a = text::at_most(all.bytes, 65537);

@@ -4,7 +4,6 @@ ghost use lib.ListN.{length};
 use crate::records;
 use annotation::gate_to_informative;
 use asking::arrays;
-use asking::rows;
 use asking::text;
 use lent::Written;
 use replying::columns;
@@ -29,8 +28,8 @@ fn read_columns(line: &[u8], out: &mut [u8]) -> usize
     let mut informative = arrays::bases();
     let mut unconverted = arrays::counts();
     let mut converted = arrays::counts();
-    let n = rows::columns(line, 2, &mut informative, &mut unconverted, &mut converted);
-    if n.informative == rows::NO_ROW {
+    let n = asking_rows::columns(line, 2, &mut informative, &mut unconverted, &mut converted);
+    if n.informative == asking_rows::NO_ROW {
         return reply::unknown(out);
     }
     let i = text::at_most(n.informative, 16001);
@@ -94,7 +93,7 @@ fn end(out: &mut [u8], at: usize, wrote: bool, differ: bool) -> usize
 // A refused call wrote into a column that it works in: it is no longer what field k says.
 fn wrote_counts(line: &[u8], k: usize, column: &[u32]) -> bool {
     let mut before = arrays::counts();
-    rows::counts(text::field(line, k), &mut before);
+    asking_rows::counts(text::field(line, k), &mut before);
     let n = text::at_most(column.len(), 16001);
     marks::differ_u32(column, &before[0..n])
 }

@@ -3,7 +3,6 @@ ghost use Prim.Native.Nat.{_≤_};
 ghost use lib.ListN.{length};
 use annotation::restore_unconverted_bases;
 use asking::arrays;
-use asking::rows;
 use asking::text;
 use asking::text::Pattern;
 use lent::Written;
@@ -28,8 +27,8 @@ fn read_marks(line: &[u8], pattern: ConversionPattern, out: &mut [u8]) -> usize
     ensures { λ r. ⌜ r ≤ length (now (out .exit)) ⌝ }
 {
     let mut informative = arrays::bases();
-    let i = rows::bytes(text::field(line, 3), &mut informative);
-    if i == rows::NO_ROW {
+    let i = asking_rows::bytes(text::field(line, 3), &mut informative);
+    if i == asking_rows::NO_ROW {
         return reply::unknown(out);
     }
     let n = text::at_most(i, 16001);
@@ -40,8 +39,8 @@ fn restored(line: &[u8], pattern: ConversionPattern, informative: &[u8], out: &m
     ensures { λ r. ⌜ r ≤ length (now (out .exit)) ⌝ }
 {
     let mut bases = arrays::bases();
-    let n = rows::bytes(text::field(line, 2), &mut bases);
-    if n == rows::NO_ROW {
+    let n = asking_rows::bytes(text::field(line, 2), &mut bases);
+    if n == asking_rows::NO_ROW {
         return reply::unknown(out);
     }
     let r = restore(&mut bases, n, pattern, informative);
@@ -69,6 +68,6 @@ fn show_restored(line: &[u8], r: Written, bases: &[u8], out: &mut [u8]) -> usize
 // The refused call wrote into the bases: they are no longer what the field says.
 fn wrote_bases(line: &[u8], bases: &[u8]) -> bool {
     let mut before = arrays::bases();
-    rows::bytes(text::field(line, 2), &mut before);
+    asking_rows::bytes(text::field(line, 2), &mut before);
     marks::differ_u8(bases, &before)
 }

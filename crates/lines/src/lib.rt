@@ -1,7 +1,56 @@
-// The lines of `tagedit`: taking the input apart, reading what a line says, and putting lines into the output. A support crate: a function here may
-// ask something of its caller (`requires`).
-//
-// input: the next line, and its mark. numbers: what a line lists. output: lines put from a place on, as far as the room reaches.
-pub mod input;
-pub mod numbers;
-pub mod output;
+// The lines of `tagedit`'s input, their marks and their fields: each is a part of the caller's own text. What a line lists is read by `operands`; lines of the
+// output are put by `printing`. A support crate: a function here may ask something of its caller (`requires`).
+ghost use mathlib.Core.Path.{_≡_};
+ghost use mathlib.Core.List.{[], _∷_};
+ghost use Prim.Native.Nat.{_≤_};
+ghost use lib.ListN.{length, take, drop};
+ghost use Rattle.samtags.specs.Text.{upTo};
+ghost use Rattle.samtags.specs.Edits.{sameBytes};
+ghost use Rattle.lines.specs.Lines.{lineEnd, bodyOf};
+
+// From a place on, what stands before the next byte c, or all that is left.
+pub fn up_to(text: &[u8], from: usize, c: u8) -> &[u8]
+    requires { ⌜ from ≤ length (now text) ⌝ }
+    ensures { λ r. ⌜ now r ≡ upTo c (drop from (now (text .entry))) ⌝ }
+{
+    let mut end = from;
+    while end < text.len() {
+        if text[end] == c {
+            return &text[from..end];
+        }
+        end += 1;
+    }
+    &text[from..end]
+}
+
+// The line that begins at a place, without its LF; the last line may have none.
+pub fn next_line(input: &[u8], at: usize) -> &[u8]
+    requires { ⌜ at ≤ length (now input) ⌝ }
+    ensures { λ r. ⌜ now r ≡ upTo lineEnd (drop at (now (input .entry))) ⌝ }
+{
+    up_to(input, at, b'\n')
+}
+
+// The line begins with the two bytes of a mark.
+pub fn has_mark(line: &[u8], a: u8, b: u8) -> bool
+    ensures { λ r. ⌜ r ≡ sameBytes (take 2 (now (line .entry))) (a ∷ b ∷ []) ⌝ }
+{
+    if line.len() < 2 {
+        return false;
+    }
+    if line[0] != a {
+        return false;
+    }
+    line[1] == b
+}
+
+// What follows the mark; nothing where the line is shorter than one.
+pub fn body_of(line: &[u8]) -> &[u8]
+    ensures { λ r. ⌜ now r ≡ bodyOf (now (line .entry)) ⌝ }
+{
+    let end = line.len();
+    if end < 2 {
+        return &line[end..end];
+    }
+    &line[2..end]
+}

@@ -23,9 +23,9 @@ use Rattle.samtags.specs.Decimal.{isNumber, value}
 use Rattle.samtags.specs.Reading.{deniedTo, nowhere, read, readEntry, readGroup, readGroups, readSpots, valuesIf}
 use Rattle.samtags.specs.Spots.{Group, Spot, bare, call, callsIn, holds, tracked}
 use Rattle.samtags.specs.Text.{baseOf, closedBy, endsInQuestion, ledBy, upTo}
-use Rattle.tagtext.proofs.TextLaws.{calls-none, entry-refused, group-on, groups-at, turn-on, turn-refused}
-use Rattle.tagtext.proofs.WalkLaws.{entry-six}
-use Rattle.tagtext.specs.Fields.{fieldOf}
+use Rattle.places.proofs.TextLaws.{calls-none, entry-refused, group-on, groups-at, turn-on, turn-refused}
+use Rattle.places.proofs.WalkLaws.{entry-six}
+use Rattle.fields.specs.Fields.{fieldOf}
 use Rattle.measuring.proofs.Counted.{the-type}
 use Rattle.measuring.specs.declared.Counted.{Counted}
 use Rattle.measuring.specs.declared.Counted.the-variants.{To, Refused, Unsure}

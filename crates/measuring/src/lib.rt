@@ -10,13 +10,10 @@ ghost use Rattle.lent.specs.Lists.{lastOr};
 ghost use Rattle.samtags.specs.Bytes.{comma, semicolon};
 ghost use Rattle.samtags.specs.Text.{upTo, ledBy, closedBy};
 ghost use Rattle.samtags.specs.Reading.{nowhere, read, readSpots, readGroup, readGroups};
-ghost use Rattle.tagtext.specs.Fields.{fieldOf};
+ghost use Rattle.fields.specs.Fields.{fieldOf};
 ghost use Rattle.measuring.specs.Counting.{countedRefusal, EntriesCounted, GroupCounted, TagCounted};
 use lent::Refusal;
-use tagtext::fields;
-use tagtext::headers;
-use tagtext::numbers;
-use tagtext::numbers::Skip;
+use numbers::Skip;
 
 // Where a walk stands: the byte of the text and the value of ML that come next, and how many groups and calls were passed.
 pub struct Count {

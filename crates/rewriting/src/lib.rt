@@ -16,7 +16,6 @@ ghost use Rattle.changing.specs.Windows.{Unmarked};
 ghost use Rattle.lent.specs.Outcome.{tagSays};
 ghost use Rattle.editing.specs.Rewrote.{rewrote, leavesTag};
 ghost use Rattle.rewriting.specs.Starts.{startSays, startOf};
-use editing::tags;
 use lent::Refusal;
 use lent::Tagged;
 
@@ -44,7 +43,7 @@ pub fn drop_masked_modifications(
         (length (now («mm_out» .entry))) (length (now («ml_out» .entry))))
         (now («mm_out» .entry)) (now («ml_out» .entry)) ⌝ }
 {
-    let fits = tags::in_domain(before, mm, ml, has_ml);
+    let fits = editing::in_domain(before, mm, ml, has_ml);
     if !fits {
         return Tagged::Refused(Refusal(1));
     }
@@ -55,7 +54,7 @@ pub fn drop_masked_modifications(
         return Tagged::Refused(Refusal(2));
     }
     let no_marks: [u8; 0] = [];
-    tags::edit_tag(before, after, &no_marks, mm, ml, 0, has_ml, mm_out, ml_out)
+    editing::edit_tag(before, after, &no_marks, mm, ml, 0, has_ml, mm_out, ml_out)
 }
 
 // Drops the calls at the places, with a row to mark them in: it comes without a mark and is as long as SEQ or longer.
@@ -77,8 +76,8 @@ fn drop_with(
         (length (now («mm_out» .entry))) (length (now («ml_out» .entry))))
         (now («mm_out» .entry)) (now («ml_out» .entry)) ⌝ }
 {
-    changing::changes::mark_places(places, marks, 1);
-    tags::edit_tag(seq, seq, marks, mm, ml, 0, has_ml, mm_out, ml_out)
+    changing::mark_places(places, marks, 1);
+    editing::edit_tag(seq, seq, marks, mm, ml, 0, has_ml, mm_out, ml_out)
 }
 
 // The calls at the places go, and SEQ stays: their bases still count in later skips. The places may come in any order and more than once; those past
@@ -99,15 +98,15 @@ pub fn drop_modifications_at(
         (length (now («mm_out» .entry))) (length (now («ml_out» .entry))))
         (now («mm_out» .entry)) (now («ml_out» .entry)) ⌝ }
 {
-    let fits = tags::in_domain(seq, mm, ml, has_ml);
+    let fits = editing::in_domain(seq, mm, ml, has_ml);
     if !fits {
         return Tagged::Refused(Refusal(1));
     }
     if seq.len() <= 1024 {
-        let mut few = changing::changes::few_marks();
+        let mut few = changing::few_marks();
         return drop_with(seq, places, mm, ml, has_ml, &mut few, mm_out, ml_out);
     }
-    let mut marks = changing::changes::no_marks();
+    let mut marks = changing::no_marks();
     drop_with(seq, places, mm, ml, has_ml, &mut marks, mm_out, ml_out)
 }
 
@@ -140,14 +139,14 @@ pub fn trim_clipped_modifications(
         (length (now («mm_out» .entry))) (length (now («ml_out» .entry))))
         (now («mm_out» .entry)) (now («ml_out» .entry)) ⌝ }
 {
-    let fits = tags::in_domain(before, mm, ml, has_ml);
+    let fits = editing::in_domain(before, mm, ml, has_ml);
     if !fits {
         return Tagged::Refused(Refusal(1));
     }
     if 16000 < after.len() {
         return Tagged::Refused(Refusal(1));
     }
-    let same = changing::windows::same_bytes(before, after);
+    let same = windows::same_bytes(before, after);
     if same {
         return Tagged::Refused(Refusal(21));
     }
@@ -155,10 +154,10 @@ pub fn trim_clipped_modifications(
     let WindowStart::Known(lo) = found else {
         return Tagged::Refused(Refusal(11));
     };
-    let window = changing::windows::lies_in(after, before, lo);
+    let window = windows::lies_in(after, before, lo);
     if !window {
         return Tagged::Refused(Refusal(11));
     }
     let none: [u8; 0] = [];
-    tags::edit_tag(before, after, &none, mm, ml, lo, has_ml, mm_out, ml_out)
+    editing::edit_tag(before, after, &none, mm, ml, lo, has_ml, mm_out, ml_out)
 }

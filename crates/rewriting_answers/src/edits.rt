@@ -4,7 +4,6 @@ ghost use Prim.Native.Nat.{_≤_};
 ghost use lib.ListN.{length};
 use crate::lend;
 use asking::arrays;
-use asking::rows;
 use asking::text;
 use asking::text::Number;
 use asking::text::TwoRooms;
@@ -61,9 +60,9 @@ fn read_tag(line: &[u8], asked: Asked, out: &mut [u8]) -> usize
 {
     let mut mm = arrays::text();
     let mut ml = arrays::text();
-    let n = rows::bytes(text::field(line, 1), &mut mm);
+    let n = asking_rows::bytes(text::field(line, 1), &mut mm);
     let v = values(text::field(line, 2), asked.has_ml, &mut ml);
-    if n == rows::NO_ROW || v == rows::NO_ROW {
+    if n == asking_rows::NO_ROW || v == asking_rows::NO_ROW {
         return reply::unknown(out);
     }
     let a = text::at_most(n, 65537);
@@ -76,15 +75,15 @@ fn values(s: &[u8], has_ml: bool, ml: &mut [u8]) -> usize {
     if !has_ml {
         return 0;
     }
-    rows::bytes(s, ml)
+    asking_rows::bytes(s, ml)
 }
 
 fn read_seq(line: &[u8], asked: Asked, mm: &[u8], ml: &[u8], out: &mut [u8]) -> usize
     ensures { λ r. ⌜ r ≤ length (now (out .exit)) ⌝ }
 {
     let mut seq = arrays::bases();
-    let n = rows::bytes(text::field(line, 3), &mut seq);
-    if n == rows::NO_ROW {
+    let n = asking_rows::bytes(text::field(line, 3), &mut seq);
+    if n == asking_rows::NO_ROW {
         return reply::unknown(out);
     }
     let s = text::at_most(n, 16001);
@@ -100,8 +99,8 @@ fn read_places(line: &[u8], asked: Asked, mm: &[u8], ml: &[u8], seq: &[u8], out:
     ensures { λ r. ⌜ r ≤ length (now (out .exit)) ⌝ }
 {
     let mut places = arrays::named_places();
-    let n = rows::named_places(text::field(line, 4), &mut places);
-    if n == rows::NO_ROW {
+    let n = asking_rows::named_places(text::field(line, 4), &mut places);
+    if n == asking_rows::NO_ROW {
         return reply::unknown(out);
     }
     let p = text::at_most(n, 65537);
@@ -120,8 +119,8 @@ fn read_after(
     ensures { λ r. ⌜ r ≤ length (now (out .exit)) ⌝ }
 {
     let mut after = arrays::bases();
-    let n = rows::bytes(text::field(line, 4), &mut after);
-    if n == rows::NO_ROW {
+    let n = asking_rows::bytes(text::field(line, 4), &mut after);
+    if n == asking_rows::NO_ROW {
         return reply::unknown(out);
     }
     let a = text::at_most(n, 16001);

@@ -17,8 +17,8 @@ use Rattle.samtags.specs.Meaning.{next}
 use Rattle.samtags.specs.Reading.{Row, rowsFrom, rowsOf, valuesIn, nowhere, readGroup, readSpots, valuesIf, readGroups}
 use Rattle.samtags.specs.Spots.{Call, Group, Spot, bare, call, callsIn, listing, tracked}
 use Rattle.samtags.specs.Text.{baseOf, ledBy, upTo, closedBy}
-use Rattle.tagtext.proofs.TextLaws.{calls-none, group-on, groups-at}
-use Rattle.tagtext.specs.Fields.{fieldOf}
+use Rattle.places.proofs.TextLaws.{calls-none, group-on, groups-at}
+use Rattle.fields.specs.Fields.{fieldOf}
 use Rattle.scanning.specs.Scanning.{Columns, Finished, Listed, columns, finished, listedGroup, listedSpots, withRows}
 
 -- ---- the columns

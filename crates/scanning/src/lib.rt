@@ -8,15 +8,13 @@ ghost use Rattle.samtags.specs.Bytes.{comma, semicolon};
 ghost use Rattle.samtags.specs.Text.{upTo, ledBy, closedBy};
 ghost use Rattle.samtags.specs.Spots.{tracked};
 ghost use Rattle.samtags.specs.Reading.{nowhere, readSpots, readGroup, readGroups};
-ghost use Rattle.tagtext.specs.Fields.{fieldOf};
+ghost use Rattle.fields.specs.Fields.{fieldOf};
 ghost use Rattle.scanning.specs.Answers.{scanRefusal};
 ghost use Rattle.scanning.specs.Scanning.{columns, EntriesScanned, GroupScanned, TagScanned};
 use lent::Refusal;
-use tagtext::fields;
-use tagtext::headers;
-use tagtext::places::Entry;
-use tagtext::places::Place;
-use tagtext::places::find_entry;
+use places::Entry;
+use places::Place;
+use places::find_entry;
 
 // Where a walk stands: the byte of the text and the value of ML that come next, and how many groups and calls were passed.
 pub struct Cursor {

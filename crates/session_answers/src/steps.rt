@@ -4,7 +4,6 @@ ghost use mathlib.Core.Path.{_≡_};
 ghost use Prim.Native.Nat.{_≤_};
 ghost use lib.ListN.{length};
 use asking::arrays;
-use asking::rows;
 use asking::text;
 use replying::marked;
 use replying::marks;
@@ -52,7 +51,7 @@ pub fn answer_step(line: &[u8], out: &mut [u8]) -> usize
         return reply::unknown(out);
     }
     let mut row = three();
-    let n = rows::numbers(text::field(line, 4), &mut row);
+    let n = asking_rows::numbers(text::field(line, 4), &mut row);
     if n != 3 {
         return reply::unknown(out);
     }
@@ -73,8 +72,8 @@ fn read_numbers(line: &[u8], asked: Asked, out: &mut [u8]) -> usize
     ensures { λ r. ⌜ r ≤ length (now (out .exit)) ⌝ }
 {
     let mut given = arrays::named_places();
-    let n = rows::named_places(text::field(line, 6), &mut given);
-    if n == rows::NO_ROW {
+    let n = asking_rows::named_places(text::field(line, 6), &mut given);
+    if n == asking_rows::NO_ROW {
         return reply::unknown(out);
     }
     let kind = asked.kind;
@@ -99,10 +98,10 @@ fn read_rows(line: &[u8], asked: Asked, given: &[u32], out: &mut [u8]) -> usize
     let mut seq = arrays::bases();
     let mut mm = arrays::text();
     let mut ml = marked::text();
-    let s = rows::bytes(text::field(line, 1), &mut seq);
-    let t = rows::bytes(text::field(line, 2), &mut mm);
+    let s = asking_rows::bytes(text::field(line, 1), &mut seq);
+    let t = asking_rows::bytes(text::field(line, 2), &mut mm);
     let v = values(text::field(line, 3), asked.has_ml, &mut ml);
-    if s == rows::NO_ROW || t == rows::NO_ROW || v == rows::NO_ROW {
+    if s == asking_rows::NO_ROW || t == asking_rows::NO_ROW || v == asking_rows::NO_ROW {
         return reply::unknown(out);
     }
     cut_rows(line, asked, given, s, t, v, &mut seq, &mut mm, &mut ml, out)
@@ -113,7 +112,7 @@ fn values(s: &[u8], has_ml: bool, ml: &mut [u8]) -> usize {
     if !has_ml {
         return ml.len();
     }
-    rows::bytes(s, ml)
+    asking_rows::bytes(s, ml)
 }
 
 // The buffers are as long as the request says.
@@ -249,7 +248,7 @@ fn changed(line: &[u8], has_ml: bool, seq: &[u8], mm: &[u8], ml: &[u8]) -> bool 
 
 fn differs(field: &[u8], row: &[u8]) -> bool {
     let mut given = arrays::text();
-    let n = rows::bytes(field, &mut given);
+    let n = asking_rows::bytes(field, &mut given);
     let k = text::at_most(n, 65537);
     marks::differ_u8(&given[0..k], row)
 }

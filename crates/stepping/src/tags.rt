@@ -31,7 +31,7 @@ pub fn edit_front(
         (now (mm .entry)) (now (ml .entry)) ⌝ }
 {
     let taken = scanning::values_taken(values, has_ml);
-    inplace::tags::edit_in_place(
+    inplace::edit_in_place(
         seq,
         after,
         marks,

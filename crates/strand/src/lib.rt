@@ -16,7 +16,6 @@ ghost use Rattle.samtags.proofs.Skips.{bareSince};
 ghost use Rattle.strand.specs.Walk.{calledSays, spotsFrom, spotsAt};
 use pattern::ConversionPattern;
 use pattern::MethylationMode;
-use tagtext::numbers;
 
 // Bases of SEQ, and entries of a column.
 const POSITIONS: usize = 16000;

@@ -2,9 +2,11 @@
 -- Assumes nothing.
 use mathlib.Core.Path.{_≡_, _∙_, ap, refl, sym}
 use Prim.Native.Nat.{ℕ, suc, zero, _+_, _-_, _≤_, _<_}
+use native.Mathlib.Nat.{sub-zero}
 use native.Mathlib.Omega.{arith}
 use mathlib.Core.Bool.{Bool, cond, false, true, _&&_}
 use mathlib.Core.List.{List, [], _∷_, _++_}
+use mathlib.Core.Logic.{_⊎_, ⊎-elim}
 use lib.Dec.{eqb}
 use lib.ListN.{length, take, drop, getD, drop-of-length-le, length-append, length-drop, take-append-drop}
 use lib.Seq.{drop-append-add, drop-drop, getD-drop, getD-take, length-take-le, take-add}
@@ -14,7 +16,8 @@ use Rattle.lent.proofs.Lists.{count-more, filter-all, filter-append, filter-ext
 use Rattle.lent.proofs.Tests.{by-test}
 use Rattle.lent.specs.Lists.{filter}
 use Rattle.samtags.specs.Spots.{holds, placesFrom, tracked}
-use Rattle.strides.specs.Counts.{between, heldBetween, heldThere, holdBoth}
+use Rattle.strides.specs.Counts.{Told, Undivided, between, heldBetween, heldThere, holdBoth}
+use Rattle.strides.specs.declared.Window.{Window}
 
 pub as-number : (t : Bool) → boolByte t ≡ cond t 1 0
 as-number true = refl
@@ -192,6 +195,27 @@ module _ (lo : ℕ) (after : List ℕ) (b : ℕ) (seq : List ℕ) where
             there-inside lo after b (at + n) (omega arith) (omega arith)
             ∙ ap (λ (j : ℕ). holds b (getD after j 0)) z
             ∙ ap (holds b) (sym (getD-take 32 (drop (at - lo) after) n 0 small ∙ getD-drop (at - lo) after n 0))
+
+-- a block that is not divided by a window other than SEQ itself
+pub undivided : (w : Window) (bases place : ℕ) → w .same ≡ false → Undivided w bases place
+    → (place + 32 ≤ w .lo) ⊎ ((w .lo ≤ place) × ((bases ≤ place - w .lo) ⊎ (place - w .lo + 32 ≤ bases)))
+undivided w bases place e = ⊎-elim (λ s. let z : _≡_ {A = ℕ} 0 1 = cc in absurd (omega arith)) (λ h. h)
+
+-- ---- where nothing changed
+
+both-self : (b : ℕ) (xs : List ℕ) → holdBoth b xs xs ≡ length (filter (holds b) xs)
+both-self b [] = refl
+both-self b (x ∷ xs) = by-test (holds b x) (λ e. rw (e, both-self b xs) (omega arith)) (λ e. rw (e, both-self b xs) (omega arith))
+
+-- what stands after is SEQ itself, which holds every base of a block
+pub all-held : (w : Window) (after : List ℕ) (b : ℕ) (seq : List ℕ) (at : ℕ) → Told w after seq → w .same ≡ true → at + 32 ≤ length seq
+    → heldBetween (w .lo) after b seq at (at + 32) ≡ length (filter (holds b) (take 32 (drop at seq)))
+all-held w after b seq at told s u =
+    let start = told s .0 in
+    let row = told s .1 in
+    (λ j. heldBetween (start j) (row j) b seq at (at + 32))
+    ∙ both-inside 0 seq b seq at u (omega arith) (omega arith)
+    ∙ rw (sub-zero at) (both-self b (take 32 (drop at seq)))
 
 -- ---- how many there are in all
 

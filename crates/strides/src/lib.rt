@@ -4,11 +4,16 @@
 ghost use mathlib.Core.Path.{_≡_};
 ghost use Prim.Native.Nat.{_+_, _-_, _≤_};
 ghost use mathlib.Core.Bool.{false, true};
-ghost use mathlib.Core.Logic.{_⊎_};
 ghost use lib.ListN.{length, take, drop};
 ghost use Rattle.lent.specs.Lists.{filter};
 ghost use Rattle.samtags.specs.Spots.{holds, tracked};
-ghost use Rattle.strides.specs.Counts.{between, heldBetween, holdBoth};
+ghost use Rattle.strides.specs.Counts.{Told, Undivided, between, heldBetween, holdBoth};
+
+// Which place of SEQ what stands after the edit begins at, and whether it is SEQ itself, so that no passed base need be asked whether it is held.
+pub struct Window {
+    pub lo: usize,
+    pub same: bool,
+}
 
 // A byte of SEQ counts for the base: every byte where the base is 'N', else the base itself.
 pub fn counts(base: u8, b: u8) -> bool
@@ -48,31 +53,44 @@ fn both_in_block(seq: &[u8], from: usize, after: &[u8], there: usize, base: u8) 
     n as usize
 }
 
-// The window's start or its end lies inside the block at a place: such a block is passed base by base.
-fn is_split(place: usize, lo: usize, window: usize) -> bool
+// The window's start or its end lies inside the block at a place: such a block is passed base by base. SEQ itself divides none.
+fn is_split(place: usize, window: Window, bases: usize) -> bool
     requires { ⌜ place + 32 ≤ 16000 ⌝ }
-    ensures { λ r. ⌜ (r ≡ false → (place + 32 ≤ lo) ⊎ ((lo ≤ place) × ((window ≤ place - lo) ⊎ (place - lo + 32 ≤ window)))) ⌝ }
+    ensures { λ r. ⌜ (r ≡ false → Undivided window bases place) ⌝ }
 {
-    if place < lo {
-        return lo < place + 32;
-    }
-    let there = place - lo;
-    if window <= there {
+    if window.same {
         return false;
     }
-    window - there < 32
+    if place < window.lo {
+        return window.lo < place + 32;
+    }
+    let there = place - window.lo;
+    if bases <= there {
+        return false;
+    }
+    bases - there < 32
 }
 
-// How many of the group's bases of a block are still held: none outside the window.
-fn held_in_block(seq: &[u8], after: &[u8], lo: usize, base: u8, place: usize) -> usize
-    requires { ⌜ (place + 32 ≤ length (now seq)) × (base ≡ 78 → ⊥)
-        × ((place + 32 ≤ lo) ⊎ ((lo ≤ place) × ((length (now after) ≤ place - lo) ⊎ (place - lo + 32 ≤ length (now after))))) ⌝ }
-    ensures { λ r. ⌜ r ≡ heldBetween lo (now (after .entry)) base (now (seq .entry)) place (place + 32) ⌝ }
+// How many of the group's n bases of a block are still held: none outside the window, and all of them in SEQ itself.
+fn held_in_block(
+    seq: &[u8],
+    after: &[u8],
+    window: Window,
+    base: u8,
+    place: usize,
+    n: usize,
+) -> usize
+    requires { ⌜ (place + 32 ≤ length (now seq)) × (base ≡ 78 → ⊥) × Told window (now after) (now seq)
+        × Undivided window (length (now after)) place × (n ≡ length (filter (holds base) (take 32 (drop place (now seq))))) ⌝ }
+    ensures { λ r. ⌜ r ≡ heldBetween (window .lo) (now (after .entry)) base (now (seq .entry)) place (place + 32) ⌝ }
 {
-    if place < lo {
+    if window.same {
+        return n;
+    }
+    if place < window.lo {
         return 0;
     }
-    let there = place - lo;
+    let there = place - window.lo;
     if after.len() <= there {
         return 0;
     }
@@ -90,21 +108,21 @@ pub struct Stride {
 pub fn pass_blocks(
     seq: &[u8],
     after: &[u8],
-    lo: usize,
+    window: Window,
     base: u8,
     from: usize,
     skip: usize,
 ) -> Stride
-    requires { ⌜ (from ≤ length (now seq)) × (length (now seq) ≤ 16000) × (base ≡ 78 → ⊥) ⌝ }
+    requires { ⌜ (from ≤ length (now seq)) × (length (now seq) ≤ 16000) × (base ≡ 78 → ⊥) × Told window (now after) (now seq) ⌝ }
     ensures { λ r. ⌜ (from ≤ r .place) × (r .place ≤ length (now (seq .entry))) × (r .passed ≤ skip)
         × (r .passed ≡ length (between base (now (seq .entry)) from (r .place)))
-        × (r .held ≡ heldBetween lo (now (after .entry)) base (now (seq .entry)) from (r .place)) ⌝ }
+        × (r .held ≡ heldBetween (window .lo) (now (after .entry)) base (now (seq .entry)) from (r .place)) ⌝ }
 {
     let mut place = from;
     let mut passed = 0;
     let mut held = 0;
     while is_far(skip - passed, seq.len() - place) {
-        let split = is_split(place, lo, after.len());
+        let split = is_split(place, window, after.len());
         let n = count_block(seq, place, 32, base);
         if split {
             return Stride {
@@ -120,7 +138,7 @@ pub fn pass_blocks(
                 held: held,
             };
         }
-        held = held + held_in_block(seq, after, lo, base, place);
+        held = held + held_in_block(seq, after, window, base, place, n);
         passed = passed + n;
         place = place + 32;
     }

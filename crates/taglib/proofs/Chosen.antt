@@ -8,7 +8,7 @@ use Rattle.lent.specs.Outcome.{Outcome, done, andThen}
 use Rattle.pattern.specs.Patterns.{patternOf}
 use Rattle.pattern.specs.declared.ConversionPattern.{ConversionPattern}
 use Rattle.pattern.specs.declared.MethylationMode.{MethylationMode}
-use Rattle.telling.specs.Modes.{modeOf}
+use Rattle.modes.specs.Modes.{modeOf}
 
 module _ {A : Type 0} (run : MethylationMode → ConversionPattern → ConversionPattern → Outcome A) (mode first second : ℕ) where
   pub chosen-outcome : {m : MethylationMode} {p q : ConversionPattern} → modeOf mode ≡ done m → p ≡ patternOf first → q ≡ patternOf second

@@ -8,9 +8,9 @@ ghost use Rattle.pattern.specs.Patterns.{patternOf};
 ghost use Rattle.samtags.specs.Writing.{Tag};
 ghost use Rattle.samtags.specs.Building.{columns, buildTag};
 ghost use Rattle.telling.specs.Told.{told};
-ghost use Rattle.telling.specs.Modes.{modeOf};
+ghost use Rattle.modes.specs.Modes.{modeOf};
+use modes::Mode;
 use pattern::ConversionPattern;
-use telling::modes::Mode;
 
 // A strand's MM text and ML.
 #[no_mangle]
@@ -35,7 +35,7 @@ pub extern "C" fn aql_build_mm_ml_tags(
         × (now (mm .exit) ≡ leaves (λ (t : Tag). t .text) o (now (mm .entry)))
         × (now (ml .exit) ≡ leaves (λ (t : Tag). t .ml) o (now (ml .entry)))) ⌝ }
 {
-    match telling::modes::mode_of(mode) {
+    match modes::mode_of(mode) {
         Mode::Known(chosen) => {
             let answer = building::build_mm_ml_tags(
                 consensus_bases,
@@ -72,7 +72,7 @@ pub extern "C" fn aql_build_mm_tag_no_ml(
         × (now («mm_len» .exit) ≡ told (λ (t : Tag). length (t .text)) o (now («mm_len» .entry)))
         × (now (mm .exit) ≡ leaves (λ (t : Tag). t .text) o (now (mm .entry)))) ⌝ }
 {
-    match telling::modes::mode_of(mode) {
+    match modes::mode_of(mode) {
         Mode::Known(chosen) => {
             let answer = building::build_mm_tag_no_ml(
                 consensus_bases,

@@ -6,10 +6,10 @@ ghost use Rattle.lent.specs.Filled.{leaves};
 ghost use Rattle.pattern.specs.Patterns.{patternOf};
 ghost use Rattle.duplex.specs.Duplex.{Duplexed, strand, rows, lengthsOf, duplexTags};
 ghost use Rattle.telling.specs.Told.{told};
-ghost use Rattle.telling.specs.Modes.{modeOf};
-ghost use Rattle.telling.specs.Strands.{partRow};
+ghost use Rattle.modes.specs.Modes.{modeOf};
+ghost use Rattle.telling_strands.specs.Strands.{partRow};
+use modes::Mode;
 use pattern::ConversionPattern;
-use telling::modes::Mode;
 
 // SEQ restored by each strand, MM and ML of both joined, the combined counts, and each strand's own text and counts; the length of each part goes to its
 // entry of `lengths`.
@@ -62,7 +62,7 @@ pub extern "C" fn aql_duplex_methylation_tags(
         × (now («second_unconverted_counts» .exit) ≡ leaves (λ (d : Duplexed). d .second .unconverted) o (now («second_unconverted_counts» .entry)))
         × (now («second_converted_counts» .exit) ≡ leaves (λ (d : Duplexed). d .second .converted) o (now («second_converted_counts» .entry)))) ⌝ }
 {
-    match telling::modes::mode_of(mode) {
+    match modes::mode_of(mode) {
         Mode::Known(chosen) => {
             let answer = duplex::duplex_methylation_tags(
                 bases,
@@ -88,7 +88,7 @@ pub extern "C" fn aql_duplex_methylation_tags(
                 second_unconverted_counts,
                 second_converted_counts,
             );
-            telling::strands::joined(answer, lengths)
+            telling_strands::joined(answer, lengths)
         }
         Mode::Refused(refusal) => refusal.0,
     }

@@ -1,4 +1,4 @@
-// The C library: every public call as an export over numbers and slices. include/aquiledru.h says how each is called.
+// The C library: every public call but `evidence::gate_row` as an export over numbers and slices. include/aquiledru.h says how each is called.
 //
 // An export turns C's numbers into the call's arguments (a byte that asks for a yes is yes where it is not 0, a read's flags give the pattern, 0, 1 and
 // 2 the chemistry), makes the call, and hands the answer on: the scope's number is returned, and what was asked for goes into lent numbers, which a

@@ -5,10 +5,10 @@ ghost use Rattle.pattern.specs.Case.{upper, sameInAnyCase};
 ghost use Rattle.pattern.specs.Patterns.{patternOf, basesOf, letterOf, signOf, isEnabled};
 ghost use Rattle.columns.specs.Columns.{yesByte};
 ghost use Rattle.telling.specs.Told.{told};
-ghost use Rattle.telling.specs.Modes.{modeOf};
+ghost use Rattle.modes.specs.Modes.{modeOf};
 ghost use Rattle.taglib.specs.Patterns.{patternNumber};
+use modes::Mode;
 use pattern::ConversionPattern;
-use telling::modes::Mode;
 
 // The byte in upper case.
 #[no_mangle]
@@ -78,7 +78,7 @@ pub extern "C" fn aql_mode_is_enabled(mode: u8, enabled: &mut u8) -> u8
     ensures { λ r. ⌜ (let o = onDone isEnabled (modeOf mode) in
         (r ≡ numberOf o) × (now (enabled .exit) ≡ told yesByte o (now (enabled .entry)))) ⌝ }
 {
-    match telling::modes::mode_of(mode) {
+    match modes::mode_of(mode) {
         Mode::Known(chosen) => {
             *enabled = chosen.is_enabled() as u8;
             0

@@ -8,7 +8,7 @@ ghost use Rattle.samtags.specs.Reading.{callList};
 ghost use Rattle.samtags.specs.Session.{Memory, cut, dropCalls, mask, openSession, stepInMemory};
 ghost use Rattle.stepping.specs.Steps.{memory};
 ghost use Rattle.telling.specs.Told.{told, yes};
-ghost use Rattle.telling.specs.Lengths.{lengthRow, lengthsIn};
+ghost use Rattle.telling_steps.specs.Lengths.{lengthRow, lengthsIn};
 
 // Opens a session: how many groups and calls its tag has. Nothing of it is written.
 #[no_mangle]
@@ -27,7 +27,7 @@ pub extern "C" fn aql_session_open(
         × (now (groups .exit) ≡ told (λ (ls : List Listing). length ls) o (now (groups .entry)))
         × (now (calls .exit) ≡ told (λ (ls : List Listing). length (callList ls)) o (now (calls .entry)))) ⌝ }
 {
-    let held = telling::steps::lengths_in(lengths);
+    let held = telling_steps::lengths_in(lengths);
     let answer = session::open(seq, mm, ml, has_ml != 0, held);
     telling::readings::read(answer, groups, calls)
 }
@@ -50,9 +50,9 @@ pub extern "C" fn aql_session_mask(
         × (now (mm .exit) ≡ told (λ (m : Memory). m .text) o (now (mm .entry)))
         × (now (ml .exit) ≡ told (λ (m : Memory). m .ml) o (now (ml .entry)))) ⌝ }
 {
-    let held = telling::steps::lengths_in(lengths);
+    let held = telling_steps::lengths_in(lengths);
     let answer = session::mask(seq, mm, ml, has_ml != 0, held, places);
-    telling::steps::stepped(answer, lengths)
+    telling_steps::stepped(answer, lengths)
 }
 
 // Drops the calls at the listed places; SEQ stays.
@@ -72,9 +72,9 @@ pub extern "C" fn aql_session_drop_calls(
         × (now (mm .exit) ≡ told (λ (m : Memory). m .text) o (now (mm .entry)))
         × (now (ml .exit) ≡ told (λ (m : Memory). m .ml) o (now (ml .entry)))) ⌝ }
 {
-    let held = telling::steps::lengths_in(lengths);
+    let held = telling_steps::lengths_in(lengths);
     let answer = session::drop_calls(seq, mm, ml, has_ml != 0, held, places);
-    telling::steps::stepped(answer, lengths)
+    telling_steps::stepped(answer, lengths)
 }
 
 // Cuts bases off the front and off the back.
@@ -96,7 +96,7 @@ pub extern "C" fn aql_session_cut(
         × (now (mm .exit) ≡ told (λ (m : Memory). m .text) o (now (mm .entry)))
         × (now (ml .exit) ≡ told (λ (m : Memory). m .ml) o (now (ml .entry)))) ⌝ }
 {
-    let held = telling::steps::lengths_in(lengths);
+    let held = telling_steps::lengths_in(lengths);
     let answer = session::cut(seq, mm, ml, has_ml != 0, held, front, back);
-    telling::steps::stepped(answer, lengths)
+    telling_steps::stepped(answer, lengths)
 }

@@ -2,7 +2,6 @@
 ghost use Prim.Native.Nat.{_≤_};
 ghost use lib.ListN.{length};
 use asking::arrays;
-use asking::rows;
 use asking::text;
 use asking::text::Number;
 use reading::Reading;
@@ -37,8 +36,8 @@ fn with_text(line: &[u8], tallied: bool, room: u64, out: &mut [u8]) -> usize
     ensures { λ r. ⌜ r ≤ length (now (out .exit)) ⌝ }
 {
     let mut mm = arrays::text();
-    let n = rows::bytes(text::field(line, 1), &mut mm);
-    if n == rows::NO_ROW {
+    let n = asking_rows::bytes(text::field(line, 1), &mut mm);
+    if n == asking_rows::NO_ROW {
         return reply::unknown(out);
     }
     let a = text::at_most(n, 65537);
@@ -52,8 +51,8 @@ fn with_ml(line: &[u8], tallied: bool, room: u64, mm: &[u8], out: &mut [u8]) -> 
         return with_seq(line, tallied, room, mm, b"", false, out);
     }
     let mut ml = arrays::text();
-    let n = rows::bytes(text::field(line, 2), &mut ml);
-    if n == rows::NO_ROW {
+    let n = asking_rows::bytes(text::field(line, 2), &mut ml);
+    if n == asking_rows::NO_ROW {
         return reply::unknown(out);
     }
     let a = text::at_most(n, 65537);
@@ -72,8 +71,8 @@ fn with_seq(
     ensures { λ r. ⌜ r ≤ length (now (out .exit)) ⌝ }
 {
     let mut seq = arrays::bases();
-    let n = rows::bytes(text::field(line, 3), &mut seq);
-    if n == rows::NO_ROW {
+    let n = asking_rows::bytes(text::field(line, 3), &mut seq);
+    if n == asking_rows::NO_ROW {
         return reply::unknown(out);
     }
     let a = text::at_most(n, 16001);

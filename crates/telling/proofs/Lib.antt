@@ -1,4 +1,3 @@
 pub mod Handed
 pub mod HandedReadings
-pub mod HandedSteps
 pub mod HandedTags

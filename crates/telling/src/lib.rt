@@ -1,13 +1,10 @@
 // An answer as a caller gets it that knows only numbers: the scope's number comes back, and what was asked for goes into lent numbers, which a refusal
 // leaves as they were. A support crate of the C library.
 //
-// Here: how many entries are filled. modes: the chemistry's number. readings: a tag that was read. starts: where a window begins. steps: a session's
-// step. strands: the lengths of a duplex answer. tags: a written tag.
-pub mod modes;
+// Here: how many entries are filled. readings: a tag that was read. starts: where a window begins. tags: a written tag. A session's step is told by
+// `telling_steps`, and the lengths of a duplex answer by `telling_strands`.
 pub mod readings;
 pub mod starts;
-pub mod steps;
-pub mod strands;
 pub mod tags;
 
 ghost use mathlib.Core.Path.{_≡_};

@@ -20,9 +20,9 @@ use Rattle.samtags.specs.Reading.{inDomain, readTag}
 use Rattle.samtags.specs.Session.{heldIn}
 use Rattle.samtags.specs.Spots.{Listing}
 use Rattle.samtags.specs.Text.{upTo}
-use Rattle.lines.proofs.SizeLaws.{values-short}
+use Rattle.operands.proofs.SizeLaws.{values-short}
 use Rattle.lines.proofs.UpToLaws.{line-at, no-line-at}
-use Rattle.lines.specs.Answers.{valuesIn}
+use Rattle.operands.specs.Answers.{valuesIn}
 use Rattle.lines.specs.Lines.{answerLine, bodyOf, given, hasMark, linesOf, valuesOf}
 use Rattle.reading.specs.Answers.{readingSays}
 use Rattle.reading.specs.Calls.{countsOf}
@@ -31,9 +31,10 @@ use Rattle.reading.specs.declared.Reading.the-variants as reading
 use Rattle.stepping.specs.Steps.{Ordered, memory}
 use Rattle.stepping.specs.declared.Lengths.{Lengths}
 use Rattle.transcript.proofs.Room.{room}
-use Rattle.transcript.proofs.RestLaws.{Put}
+use Rattle.serving.proofs.RestLaws.{Put}
 use Rattle.transcript.specs.Desk.{Said}
-use Rattle.transcript.specs.Transcript.{afterOpening, fromFirst, fromSecond, fromThird, opened, openedOn, transcriptOf}
+use Rattle.serving.specs.Serving.{afterOpening}
+use Rattle.transcript.specs.Transcript.{fromFirst, fromSecond, fromThird, opened, openedOn, transcriptOf}
 
 -- ---- the opening's answer
 

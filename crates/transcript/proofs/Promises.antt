@@ -23,7 +23,8 @@ use Rattle.samtags.specs.Spots.{Listing}
 use Rattle.lines.proofs.MarkLaws.{marked-long}
 use Rattle.lines.specs.Lines.{answerLine, hasMark, linesOf, stepOf, valuesOf}
 use Rattle.answering.proofs.LineLaws.{asks-nothing}
-use Rattle.transcript.specs.Transcript.{afterOpening, closing, fromFirst, fromSecond, fromThird, opened, openedOn, transcriptOf}
+use Rattle.serving.specs.Serving.{afterOpening, closing}
+use Rattle.transcript.specs.Transcript.{fromFirst, fromSecond, fromThird, opened, openedOn, transcriptOf}
 
 -- an answer for each step, and what is held after the last
 pub good-lines : (ml? : Bool) (ls : List (List ℕ)) (ts : List Step) (s : Held) → map stepOf ls ≡ map some ts

@@ -13,7 +13,7 @@ use borrow.Author.Tests.{leb-true}
 use Rattle.lent.proofs.Tests.{by-test}
 use Rattle.lent.specs.Outcome.{Outcome, done, numberOf, refused}
 use Rattle.lines.proofs.MarkLaws.{marked-long}
-use Rattle.lines.proofs.SizeLaws.{answer-short, answer-zero, decimals-length, lines-length, marked-length, spelled, step-long, values-short}
+use Rattle.operands.proofs.SizeLaws.{answer-short, answer-zero, decimals-length, lines-length, marked-length, spelled, step-long, values-short}
 use Rattle.lines.specs.Lines.{answerLine, bodyOf, decimals, given, hasMark, lineOf, linesOf, stepOf, valuesOf}
 use Rattle.samtags.proofs.TableNumbers.{InTable, read-tag-in-table, step-in-table}
 use Rattle.samtags.proofs.Length.{fieldsLength, weight}
@@ -21,16 +21,15 @@ use Rattle.samtags.proofs.Memory.{Shrinks, step-shrinks}
 use Rattle.samtags.specs.Reading.{readTag}
 use Rattle.samtags.specs.Session.{Held, Step, afterStep, stepped}
 use Rattle.samtags.specs.Spots.{Listing}
-use Rattle.transcript.specs.Transcript.{afterOpening, closing, fromFirst, fromSecond, fromThird, opened, openedOn, transcriptOf}
+use Rattle.serving.proofs.RestLaws.{line-length}
+use Rattle.serving.specs.Serving.{afterOpening, closing}
+use Rattle.transcript.specs.Transcript.{fromFirst, fromSecond, fromThird, opened, openedOn, transcriptOf}
 
 -- ---- what is held
 
 -- how long it is said at the end
 abbrev size : Bool → Held → ℕ
 size ml? s = 6 + length (s .seq) + length (s .text) + cond ml? (3 + (weight spelled (s .ml) - 1)) 0
-
-pub line-length : (a b : ℕ) (body : List ℕ) → length (a ∷ b ∷ body ++ 10 ∷ []) ≡ 3 + length body
-line-length a b body = omega (arith, length-append body (10 ∷ []))
 
 closing-size : (ml? : Bool) (s : Held) → length (closing ml? s) ≡ size ml? s
 unfolding closing

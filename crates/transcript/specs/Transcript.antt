@@ -5,26 +5,12 @@ use mathlib.Core.Bool.{Bool, true, false, cond}
 use mathlib.Core.List.{List, [], _∷_, _++_}
 use lib.ListN.{length}
 use lib.Dec.{leb}
-use Rattle.lent.specs.Outcome.{Outcome, refused, done, numberOf}
+use Rattle.lent.specs.Outcome.{Outcome, refused, done}
 use Rattle.samtags.specs.Reading.{readTag}
 use Rattle.samtags.specs.Spots.{Listing}
-use Rattle.samtags.specs.Session.{Held, stepped, afterStep}
-use Rattle.lines.specs.Lines.{linesOf, hasMark, bodyOf, valuesOf, stepOf, given, lineOf, answerLine, decimals}
-
--- what is held at the end: SEQ, the MM text, and the ML if one was given
-unfoldable pub closing : Bool → Held → List ℕ
-unfolding decimals
-closing ml? s = lineOf "SQ" (s .seq) ++ lineOf "MM" (s .text) ++ cond ml? (lineOf "ML" (decimals (s .ml))) []
-
--- A line for each step and its answer, and at the end what is held. A refused step changes nothing and the next one follows; a bad line is
--- answered 13 and ends the output.
-unfoldable pub afterOpening : Bool → List (List ℕ) → Held → List ℕ
-unfolding stepOf stepped answerLine closing
-afterOpening ml? [] s = closing ml? s
-afterOpening ml? (l ∷ ls) s =
-    given (stepOf l) (answerLine 13) (λ t.
-    let o = stepped ml? t s in
-    answerLine (numberOf o) ++ afterOpening ml? ls (afterStep s o))
+use Rattle.samtags.specs.Session.{Held}
+use Rattle.lines.specs.Lines.{linesOf, hasMark, bodyOf, valuesOf, given, answerLine}
+use Rattle.serving.specs.Serving.{afterOpening}
 
 -- the opening is answered as the reader does; where it is refused nothing follows
 unfoldable pub opened : Bool → List (List ℕ) → Held → Outcome (List Listing) → List ℕ

@@ -6,79 +6,15 @@
 ghost use mathlib.Core.Path.{_≡_};
 ghost use Prim.Native.Nat.{_+_, _≤_};
 ghost use lib.ListN.{length, drop, take};
-ghost use lib.Seq.{sets};
 ghost use Rattle.lent.specs.Filled.{over};
 ghost use Rattle.lent.specs.Outcome.{numberOf};
-ghost use Rattle.samtags.specs.Session.{heldIn};
-ghost use Rattle.stepping.specs.Steps.{Ordered, memory};
 ghost use Rattle.reading.specs.Answers.{readingSays};
 ghost use Rattle.lines.specs.Lines.{linesOf};
 ghost use Rattle.transcript.specs.Desk.{DeskFits, Said};
-ghost use Rattle.transcript.specs.Transcript.{closing, afterOpening, openedOn, fromThird, fromSecond, fromFirst, transcriptOf};
-use answering::Answered;
-use lines::numbers::Values;
-use lines::output;
+ghost use Rattle.transcript.specs.Transcript.{openedOn, fromThird, fromSecond, fromFirst, transcriptOf};
+use operands::Values;
 use reading::Reading;
 use stepping::Lengths;
-
-// What is held at the end: SEQ, the MM text, and the ML if one was given.
-fn put_closing(
-    out: &mut [u8],
-    at: usize,
-    seq: &[u8],
-    mm: &[u8],
-    ml: &[u8],
-    has_ml: bool,
-    lengths: Lengths,
-) -> usize
-    requires { ⌜ Ordered «has_ml» (memory (now seq) (now mm) (now ml) lengths) × (at ≤ 81925) ⌝ }
-    ensures { λ r. ⌜ (let said = closing «has_ml» (heldIn (memory (now (seq .entry)) (now (mm .entry)) (now (ml .entry)) lengths)) in
-        (r ≡ at + length said) × (now (out .exit) ≡ sets (now (out .entry)) at said)) ⌝ }
-{
-    let bases = lengths.seq;
-    let text = lengths.mm;
-    let values = lengths.ml;
-    let after_seq = output::put_line(out, at, b'S', b'Q', &seq[0..bases]);
-    let after_mm = output::put_line(out, after_seq, b'M', b'M', &mm[0..text]);
-    if has_ml {
-        return output::put_values_line(out, after_mm, &ml[0..values]);
-    }
-    after_mm
-}
-
-// The lines from a place on, each answered, and what is held at the end. A bad line ends the output; a refused step does not.
-fn answer_rest(
-    input: &[u8],
-    from: usize,
-    seq: &mut [u8],
-    mm: &mut [u8],
-    ml: &mut [u8],
-    has_ml: bool,
-    lengths: Lengths,
-    out: &mut [u8],
-    at: usize,
-) -> usize
-    requires { ⌜ Ordered «has_ml» (memory (now seq) (now mm) (now ml) lengths) × (length (now input) ≤ 65536) × (from ≤ 65538)
-        × (at + length (afterOpening «has_ml» (linesOf (drop from (now input))) (heldIn (memory (now seq) (now mm) (now ml) lengths))) ≤ 81925) ⌝ }
-    ensures { λ r. ⌜ (let said = afterOpening «has_ml» (linesOf (drop from (now (input .entry))))
-        (heldIn (memory (now (seq .entry)) (now (mm .entry)) (now (ml .entry)) lengths)) in
-        (r ≡ at + length said) × (now (out .exit) ≡ sets (now (out .entry)) at said)) ⌝ }
-{
-    let mut place = from;
-    let mut end = at;
-    let mut held = lengths;
-    while place < input.len() {
-        let line = lines::input::next_line(input, place);
-        let answered = answering::answer_line(line, seq, mm, ml, has_ml, held);
-        let Answered::With(number, next) = answered else {
-            return output::put_answer(out, end, 13);
-        };
-        end = output::put_answer(out, end, number);
-        held = next;
-        place = place + line.len() + 1;
-    }
-    put_closing(out, end, seq, mm, ml, has_ml, held)
-}
 
 // The opening's number: 0, or the reader's.
 fn opening_number(reading: Reading) -> usize
@@ -112,17 +48,17 @@ fn open_session(
 {
     let read = reading::check_tag(bases, text, &ml[0..values], has_ml);
     let Reading::Done(_, _) = read else {
-        return output::put_answer(out, 0, opening_number(read));
+        return printing::put_answer(out, 0, opening_number(read));
     };
-    let end = output::put_answer(out, 0, 0);
-    changing::entries::put_all(seq, 0, bases);
-    changing::entries::put_all(mm, 0, text);
+    let end = printing::put_answer(out, 0, 0);
+    entries::put_all(seq, 0, bases);
+    entries::put_all(mm, 0, text);
     let lengths = Lengths {
         seq: bases.len(),
         mm: text.len(),
         ml: values,
     };
-    answer_rest(input, place, seq, mm, ml, has_ml, lengths, out, end)
+    serving::answer_rest(input, place, seq, mm, ml, has_ml, lengths, out, end)
 }
 
 // SEQ and MM have come. A third line that is marked ML is read before the opening is answered.
@@ -145,15 +81,15 @@ fn from_third(
     if input.len() <= place {
         return open_session(input, place, bases, text, 0, false, seq, mm, ml, out);
     }
-    let line = lines::input::next_line(input, place);
-    let marked = lines::input::has_mark(line, b'M', b'L');
+    let line = lines::next_line(input, place);
+    let marked = lines::has_mark(line, b'M', b'L');
     if !marked {
         return open_session(input, place, bases, text, 0, false, seq, mm, ml, out);
     }
-    let body = lines::input::body_of(line);
-    let read = lines::numbers::put_values(body, ml);
+    let body = lines::body_of(line);
+    let read = operands::put_values(body, ml);
     let Values::Of(values) = read else {
-        return output::put_answer(out, 0, 13);
+        return printing::put_answer(out, 0, 13);
     };
     let next = place + line.len() + 1;
     open_session(input, next, bases, text, values, true, seq, mm, ml, out)
@@ -175,14 +111,14 @@ fn from_second(
     ensures { λ r. ⌜ Said (fromSecond (now (bases .entry)) (linesOf (drop place (now (input .entry))))) r (now (out .entry)) (now (out .exit)) ⌝ }
 {
     if input.len() <= place {
-        return output::put_answer(out, 0, 13);
+        return printing::put_answer(out, 0, 13);
     }
-    let line = lines::input::next_line(input, place);
-    let marked = lines::input::has_mark(line, b'M', b'M');
+    let line = lines::next_line(input, place);
+    let marked = lines::has_mark(line, b'M', b'M');
     if !marked {
-        return output::put_answer(out, 0, 13);
+        return printing::put_answer(out, 0, 13);
     }
-    let text = lines::input::body_of(line);
+    let text = lines::body_of(line);
     let next = place + line.len() + 1;
     from_third(input, next, bases, text, seq, mm, ml, out)
 }
@@ -195,14 +131,14 @@ fn from_first(input: &[u8], seq: &mut [u8], mm: &mut [u8], ml: &mut [u8], out: &
     ensures { λ r. ⌜ Said (fromFirst (linesOf (now (input .entry)))) r (now (out .entry)) (now (out .exit)) ⌝ }
 {
     if input.len() == 0 {
-        return output::put_answer(out, 0, 13);
+        return printing::put_answer(out, 0, 13);
     }
-    let line = lines::input::next_line(input, 0);
-    let marked = lines::input::has_mark(line, b'S', b'Q');
+    let line = lines::next_line(input, 0);
+    let marked = lines::has_mark(line, b'S', b'Q');
     if !marked {
-        return output::put_answer(out, 0, 13);
+        return printing::put_answer(out, 0, 13);
     }
-    let bases = lines::input::body_of(line);
+    let bases = lines::body_of(line);
     let next = line.len() + 1;
     from_second(input, next, bases, seq, mm, ml, out)
 }
@@ -221,7 +157,7 @@ pub fn transcript(
         × (now (out .exit) ≡ over (transcriptOf (now (input .entry))) (now (out .entry))) ⌝ }
 {
     if 65536 < input.len() {
-        return output::put_answer(out, 0, 1);
+        return printing::put_answer(out, 0, 1);
     }
     from_first(input, seq, mm, ml, out)
 }

@@ -5,7 +5,7 @@ use mathlib.Core.Option.{none}
 use borrow.Author.Needs.{needs}
 use Rattle.answering.proofs.cut_line.Statement.{statement}
 use Rattle.samtags.specs.Session.{cut}
-use Rattle.lines.specs.Answers.{endsSays}
+use Rattle.operands.specs.Answers.{endsSays}
 use Rattle.lines.specs.Lines.{cutOf, given, numbersOf}
 use Rattle.stepping.specs.Steps.{memory}
 use Rattle.answering.proofs.LineLaws.{step-answered}

@@ -10,9 +10,9 @@ use Rattle.lent.proofs.Outcome.{on-done-refused}
 use Rattle.lent.specs.Outcome.{onDone, refused}
 use Rattle.samtags.specs.Reading.{nowhere}
 use Rattle.samtags.specs.Text.{upTo}
-use Rattle.tagtext.proofs.TextLaws.{ends-semicolon, rest-semicolon, turn-end, turn-field, turn-rest}
-use Rattle.tagtext.specs.Answers.{skipRefusal, skipSays}
-use Rattle.tagtext.specs.Fields.{fieldOf}
+use Rattle.places.proofs.TextLaws.{ends-semicolon, rest-semicolon, turn-end, turn-field, turn-rest}
+use Rattle.numbers.specs.Answers.{skipRefusal, skipSays}
+use Rattle.fields.specs.Fields.{fieldOf}
 use Rattle.measuring.proofs.CountLaws.{count-last, countedFrom, turn-eight, turn-passed, turn-seven, turn-six}
 use Rattle.measuring.proofs.count_entries.Statement.{statement}
 use Rattle.measuring.specs.Counting.{spotsCounted}

@@ -13,7 +13,7 @@ use Rattle.lent.specs.Outcome.{Outcome}
 use Rattle.samtags.specs.Reading.{deniedTo, nowhere, readGroup, readSpots}
 use Rattle.samtags.specs.Spots.{Spot, tracked}
 use Rattle.samtags.specs.Text.{ledBy, upTo}
-use Rattle.tagtext.proofs.TextLaws.{field-from, group-short, rest-from}
+use Rattle.places.proofs.TextLaws.{field-from, group-short, rest-from}
 use Rattle.measuring.proofs.CountLaws.{group-counted, group-refused, quiet-question, quiet-unnamed, tracked-short, unless-to}
 use Rattle.measuring.proofs.count_group.Statement.{statement}
 use Rattle.measuring.specs.Counting.{EntriesCounted, GroupCounted}

@@ -11,7 +11,7 @@ use Rattle.lent.proofs.Outcome.{on-done-refused}
 use Rattle.lent.specs.Outcome.{onDone, Outcome}
 use Rattle.samtags.specs.Reading.{nowhere, readGroup, readGroups}
 use Rattle.samtags.specs.Text.{closedBy, upTo}
-use Rattle.tagtext.proofs.TextLaws.{ahead, groups-done, groups-over}
+use Rattle.places.proofs.TextLaws.{ahead, groups-done, groups-over}
 use Rattle.measuring.proofs.CountLaws.{count-none, groups-refused, groups-turn, unless-to}
 use Rattle.measuring.proofs.count_groups.Statement.{statement}
 use Rattle.measuring.specs.Counting.{GroupCounted, TagCounted, groupsCounted}

@@ -14,10 +14,10 @@ use Rattle.samtags.specs.Decimal.{value}
 use Rattle.samtags.specs.Reading.{nowhere, readEntry, readSpots}
 use Rattle.samtags.specs.Spots.{tracked}
 use Rattle.samtags.specs.Text.{ledBy, upTo}
-use Rattle.tagtext.proofs.TextLaws.{ends-semicolon, entry-eight, entry-refused, entry-went, rest-semicolon, turn-end, turn-field, turn-on, turn-refused, turn-rest}
-use Rattle.tagtext.specs.Answers.{entryRefusal, entrySays}
-use Rattle.tagtext.specs.Fields.{fieldOf}
-use Rattle.tagtext.specs.Walk.{trackedFrom}
+use Rattle.places.proofs.TextLaws.{ends-semicolon, entry-eight, entry-refused, entry-went, rest-semicolon, turn-end, turn-field, turn-on, turn-refused, turn-rest}
+use Rattle.places.specs.Answers.{entryRefusal, entrySays}
+use Rattle.fields.specs.Fields.{fieldOf}
+use Rattle.places.specs.Walk.{trackedFrom}
 use Rattle.scanning.proofs.ScanLaws.{list-end, list-one}
 use Rattle.scanning.proofs.scan_entries.Statement.{statement}
 use Rattle.scanning.specs.Scanning.{columns, listedSpots, Columns, Listed}

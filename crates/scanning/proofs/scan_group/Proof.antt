@@ -10,7 +10,7 @@ use Rattle.lent.specs.Outcome.{Outcome}
 use Rattle.samtags.specs.Reading.{nowhere, readGroup, readSpots}
 use Rattle.samtags.specs.Spots.{Spot, tracked}
 use Rattle.samtags.specs.Text.{ledBy, upTo}
-use Rattle.tagtext.proofs.TextLaws.{field-from, group-short, rest-from}
+use Rattle.places.proofs.TextLaws.{field-from, group-short, rest-from}
 use Rattle.scanning.proofs.ScanLaws.{group-listed, group-refused}
 use Rattle.scanning.proofs.scan_group.Statement.{statement}
 use Rattle.scanning.specs.Scanning.{EntriesScanned, GroupScanned, columns}

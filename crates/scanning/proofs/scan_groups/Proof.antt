@@ -11,7 +11,7 @@ use Rattle.lent.proofs.Outcome.{on-done-refused}
 use Rattle.lent.specs.Outcome.{onDone, Outcome}
 use Rattle.samtags.specs.Reading.{nowhere, readGroup, readGroups}
 use Rattle.samtags.specs.Text.{closedBy, upTo}
-use Rattle.tagtext.proofs.TextLaws.{ahead, groups-done, groups-over}
+use Rattle.places.proofs.TextLaws.{ahead, groups-done, groups-over}
 use Rattle.scanning.proofs.ScanLaws.{finish-none, groups-refused, groups-turn}
 use Rattle.scanning.proofs.scan_groups.Statement.{statement}
 use Rattle.scanning.specs.Scanning.{GroupScanned, TagScanned, columns, finished, Columns, Finished}

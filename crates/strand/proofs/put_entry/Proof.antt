@@ -13,8 +13,8 @@ use Rattle.strand.proofs.put_entry.Statement.{statement}
 use Rattle.strand.proofs.put_entry.Tie as tie
 use Rattle.strand.proofs.put_entry.Reads as reads
 use Rattle.strand.proofs.put_entry.Lts as lts
-use Rattle.tagtext.proofs.numbers.put.Reads as put-reads
-use Rattle.tagtext.proofs.numbers.put_decimal.Reads as put-decimal-reads
+use Rattle.numbers.proofs.put.Reads as put-reads
+use Rattle.numbers.proofs.put_decimal.Reads as put-decimal-reads
 
 -- src/lib.rt:87:5
 put-requires : tie.Need-put-requires

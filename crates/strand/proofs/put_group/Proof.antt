@@ -20,7 +20,7 @@ use Rattle.strand.proofs.put_group.Reads as reads
 use Rattle.strand.proofs.put_group.Lts as lts
 use Rattle.strand.proofs.put_entries.Reads as put-entries-reads
 use Rattle.strand.proofs.put_header.Reads as put-header-reads
-use Rattle.tagtext.proofs.numbers.put.Reads as put-reads
+use Rattle.numbers.proofs.put.Reads as put-reads
 
 -- src/lib.rt:212:5
 -- how long the entries are at most

@@ -12,7 +12,7 @@ use Rattle.strand.proofs.put_header.Reads as reads
 use Rattle.strand.proofs.put_header.Lts as lts
 use Rattle.pattern.proofs.ConversionPattern.letter.Reads as letter-reads
 use Rattle.pattern.proofs.ConversionPattern.sign.Reads as sign-reads
-use Rattle.tagtext.proofs.numbers.put.Reads as put-reads
+use Rattle.numbers.proofs.put.Reads as put-reads
 
 -- src/lib.rt:187:27
 letter-requires : tie.Need-letter-requires

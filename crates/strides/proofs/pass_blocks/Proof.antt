@@ -15,12 +15,12 @@ use Rattle.strides.specs.Counts.{between, heldBetween, heldThere}
 use Rattle.strides.proofs.pass_blocks.Tie as tie
 
 abbrev Inv-loop : tie.InvT-loop
-Inv-loop seq after lo base from skip place₀ passed₀ held₀ place passed held =
+Inv-loop seq after window base from skip place₀ passed₀ held₀ place passed held =
     (place₀ ≤ place) × (place ≤ length seq) × (passed ≤ skip)
-    × (passed ≡ length (between base seq place₀ place)) × (held ≡ heldBetween lo after base seq place₀ place)
+    × (passed ≡ length (between base seq place₀ place)) × (held ≡ heldBetween (window .lo) after base seq place₀ place)
 
 abbrev μ-loop : tie.MeasureT-loop
-μ-loop seq after lo base from skip place₀ passed₀ held₀ place passed held = length seq - place
+μ-loop seq after window base from skip place₀ passed₀ held₀ place passed held = length seq - place
 
 -- there is a block ahead
 block : (k : tie.Then1 Inv-loop μ-loop) →
@@ -36,14 +36,14 @@ turned : (c : tie.After-held-in-block Inv-loop μ-loop) →
     let h = c .before .before .before .before .before .before .before .loop in
     let a = c .before .before .before .before .before .before .before .before .before .before .args in
     (h .passed + c .before .before .before .count-block .result ≡ length (between (a .base) (a .seq .now) (a .from) (h .place + 32)))
-    × (h .held + c .held-in-block .result ≡ heldBetween (a .lo) (a .after .now) (a .base) (a .seq .now) (a .from) (h .place + 32))
+    × (h .held + c .held-in-block .result ≡ heldBetween (a .window .lo) (a .after .now) (a .base) (a .seq .now) (a .from) (h .place + 32))
 turned c =
     let h = c .before .before .before .before .before .before .before .loop in
     let a = c .before .before .before .before .before .before .before .before .before .before .args in
     let ps = between-append (a .base) (a .seq .now) (a .from) (h .place) (h .inv .0) (h .inv .1) (h .place + 32) (omega arith) in
     let sizes = length-append (between (a .base) (a .seq .now) (a .from) (h .place)) (between (a .base) (a .seq .now) (h .place) (h .place + 32)) in
     let counted = c .before .before .before .count-block .ensures in
-    let held = held-append (a .lo) (a .after .now) (a .base) (a .seq .now) (a .from) (h .place) (h .place + 32) (h .inv .0) (h .inv .1) (omega arith) in (
+    let held = held-append (a .window .lo) (a .after .now) (a .base) (a .seq .now) (a .from) (h .place) (h .place + 32) (h .inv .0) (h .inv .1) (omega arith) in (
       omega (arith, h .inv .3, counted, block-count (a .base) (a .seq .now) (h .place), sizes, ap length ps),
       omega (arith, h .inv .4, c .held-in-block .ensures, held),
     )
@@ -61,7 +61,7 @@ held-few : (c : tie.After-held-in-block Inv-loop μ-loop) →
 held-few c =
     let h = c .before .before .before .before .before .before .before .loop in
     let a = c .before .before .before .before .before .before .before .before .before .before .args in
-    omega (arith, turned c, filter-length (heldThere (a .lo) (a .after .now) (a .base)) (between (a .base) (a .seq .now) (a .from) (h .place + 32)))
+    omega (arith, turned c, filter-length (heldThere (a .window .lo) (a .after .now) (a .base)) (between (a .base) (a .seq .now) (a .from) (h .place + 32)))
 
 loop-holds : tie.Need-loop-holds Inv-loop μ-loop
 loop-holds c =
@@ -71,7 +71,7 @@ loop-holds c =
       omega arith,
       omega arith,
       sym (ap length none),
-      sym (ap (λ (ps : List ℕ). length (filter (heldThere (a .lo) (a .after .now) (a .base)) ps)) none),
+      sym (ap (λ (ps : List ℕ). length (filter (heldThere (a .window .lo) (a .after .now) (a .base)) ps)) none),
     )
 
 sub-is-far : tie.Need-sub-is-far Inv-loop μ-loop
@@ -103,7 +103,9 @@ held-in-block-requires c κs =
     let split = c .before .before .before in (
       block (split .before),
       c .before .before .before .before .before .before .before .before .before .pre .2,
+      c .before .before .before .before .before .before .before .before .before .pre .3,
       split .is-split .ensures (c .before .if2 .left),
+      c .before .before .count-block .ensures,
     )
 
 add-held : tie.Need-add-held Inv-loop μ-loop

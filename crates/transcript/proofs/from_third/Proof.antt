@@ -11,9 +11,9 @@ use borrow.Author.Tests.{not-false, not-true}
 use borrow.Author.Needs.{needs}
 use Rattle.transcript.proofs.from_third.Statement.{statement}
 use Rattle.lines.proofs.UpToLaws.{up-to-within}
-use Rattle.lines.specs.Answers.{ValuesPut, valuesIn}
+use Rattle.operands.specs.Answers.{ValuesPut, valuesIn}
 use Rattle.lines.specs.Lines.{hasMark, linesOf, valuesOf}
-use Rattle.lines.specs.declared.numbers.Values.{Values}
+use Rattle.operands.specs.declared.Values.{Values}
 use Rattle.transcript.proofs.OpeningLaws.{no-values-of, said-answer, said-same, third-bad, third-ends, third-other, third-values, values-fit, values-of, values-stored}
 use Rattle.transcript.specs.Transcript.{fromThird, openedOn}
 use Rattle.transcript.proofs.from_third.Tie as tie

@@ -17,8 +17,9 @@ use Rattle.reading.specs.Calls.{countsOf}
 use Rattle.stepping.specs.Steps.{Ordered, memory}
 use Rattle.stepping.specs.declared.Lengths.{Lengths}
 use Rattle.transcript.proofs.OpeningLaws.{laid-in-order, laid-out, opening-done, opening-fits, opening-refused, opening-small, said-answer, said-same}
-use Rattle.transcript.proofs.RestLaws.{put-then, saidFrom}
-use Rattle.transcript.specs.Transcript.{afterOpening, openedOn}
+use Rattle.serving.proofs.RestLaws.{put-then, saidFrom}
+use Rattle.serving.specs.Serving.{afterOpening}
+use Rattle.transcript.specs.Transcript.{openedOn}
 use Rattle.transcript.proofs.open_session.Tie as tie
 
 -- the places before that the lemmas speak of

@@ -9,7 +9,7 @@ use Rattle.pattern.specs.Patterns.{patternOf}
 use Rattle.samtags.specs.Writing.{Tag, sizesOf}
 use Rattle.samtags.specs.Building.{Evidence, columns, buildTag}
 use Rattle.telling.proofs.Handed.{number-handed, told-handed}
-use Rattle.telling.specs.Modes.{modeOf, modeSays}
+use Rattle.modes.specs.Modes.{modeOf, modeSays}
 use borrow.Author.Needs.{needs}
 use Rattle.taglib.proofs.building_tags.aql_build_mm_ml_tags.Statement.{statement}
 use Rattle.taglib.proofs.building_tags.aql_build_mm_ml_tags.Tie as tie
@@ -17,7 +17,7 @@ use Rattle.taglib.proofs.building_tags.aql_build_mm_ml_tags.Reads as re
 use Rattle.taglib.proofs.building_tags.aql_build_mm_ml_tags.Lts as lts
 use Rattle.building.proofs.build_mm_ml_tags.Reads as build-mm-ml-tags-reads
 use Rattle.pattern.proofs.ConversionPattern.from_read_flags.Reads as from-read-flags-reads
-use Rattle.telling.proofs.modes.mode_of.Reads as mode-of-reads
+use Rattle.modes.proofs.mode_of.Reads as mode-of-reads
 use Rattle.telling.proofs.tags.tagged.Reads as tagged-reads
 
 mode-of-requires : tie.Need-mode-of-requires

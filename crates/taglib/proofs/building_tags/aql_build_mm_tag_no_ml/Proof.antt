@@ -10,7 +10,7 @@ use Rattle.pattern.specs.Patterns.{patternOf}
 use Rattle.samtags.specs.Writing.{Tag}
 use Rattle.samtags.specs.Building.{Evidence, columns, buildTag}
 use Rattle.telling.proofs.Handed.{number-handed, told-handed}
-use Rattle.telling.specs.Modes.{modeOf, modeSays}
+use Rattle.modes.specs.Modes.{modeOf, modeSays}
 use borrow.Author.Needs.{needs}
 use Rattle.taglib.proofs.building_tags.aql_build_mm_tag_no_ml.Statement.{statement}
 use Rattle.taglib.proofs.building_tags.aql_build_mm_tag_no_ml.Tie as tie
@@ -18,7 +18,7 @@ use Rattle.taglib.proofs.building_tags.aql_build_mm_tag_no_ml.Reads as 
 use Rattle.taglib.proofs.building_tags.aql_build_mm_tag_no_ml.Lts as lts
 use Rattle.building.proofs.build_mm_tag_no_ml.Reads as build-mm-tag-no-ml-reads
 use Rattle.pattern.proofs.ConversionPattern.from_read_flags.Reads as from-read-flags-reads
-use Rattle.telling.proofs.modes.mode_of.Reads as mode-of-reads
+use Rattle.modes.proofs.mode_of.Reads as mode-of-reads
 use Rattle.telling.proofs.written.Reads as written-reads
 
 mode-of-requires : tie.Need-mode-of-requires

@@ -10,8 +10,8 @@ use Rattle.pattern.specs.declared.MethylationMode.{MethylationMode}
 use Rattle.duplex.specs.Duplex.{Duplexed, strand, rows, lengthsOf, duplexTags}
 use Rattle.duplex.specs.Answers.{duplexSays}
 use Rattle.telling.proofs.Handed.{number-handed, told-handed}
-use Rattle.telling.specs.Modes.{modeOf, modeSays}
-use Rattle.telling.specs.Strands.{partRow}
+use Rattle.modes.specs.Modes.{modeOf, modeSays}
+use Rattle.telling_strands.specs.Strands.{partRow}
 use borrow.Author.Needs.{needs}
 use Rattle.taglib.proofs.Chosen.{chosen-outcome, row-handed}
 use Rattle.taglib.proofs.duplexes.aql_duplex_methylation_tags.Statement.{statement}
@@ -20,8 +20,8 @@ use Rattle.taglib.proofs.duplexes.aql_duplex_methylation_tags.Reads as 
 use Rattle.taglib.proofs.duplexes.aql_duplex_methylation_tags.Lts as lts
 use Rattle.duplex.proofs.duplex_methylation_tags.Reads as duplex-methylation-tags-reads
 use Rattle.pattern.proofs.ConversionPattern.from_read_flags.Reads as from-read-flags-reads
-use Rattle.telling.proofs.modes.mode_of.Reads as mode-of-reads
-use Rattle.telling.proofs.strands.joined.Reads as joined-reads
+use Rattle.modes.proofs.mode_of.Reads as mode-of-reads
+use Rattle.telling_strands.proofs.joined.Reads as joined-reads
 
 mode-of-requires : tie.Need-mode-of-requires
 mode-of-requires c κs = search needs

@@ -2,7 +2,7 @@
 -- Assumes nothing.
 use mathlib.Core.Path.{_≡_, _∙_, ap, refl, sym}
 use Rattle.lent.specs.Outcome.{done, refused}
-use Rattle.telling.specs.Modes.{modeOf, modeSays}
+use Rattle.modes.specs.Modes.{modeOf, modeSays}
 use Rattle.taglib.proofs.Yes.{yes-told}
 use borrow.Author.Needs.{needs}
 use Rattle.taglib.proofs.patterns.aql_mode_is_enabled.Statement.{statement}
@@ -10,7 +10,7 @@ use Rattle.taglib.proofs.patterns.aql_mode_is_enabled.Tie as tie
 use Rattle.taglib.proofs.patterns.aql_mode_is_enabled.Reads as reads
 use Rattle.taglib.proofs.patterns.aql_mode_is_enabled.Lts as lts
 use Rattle.pattern.proofs.MethylationMode.is_enabled.Reads as is-enabled-reads
-use Rattle.telling.proofs.modes.mode_of.Reads as mode-of-reads
+use Rattle.modes.proofs.mode_of.Reads as mode-of-reads
 
 mode-of-requires : tie.Need-mode-of-requires
 mode-of-requires c κs = search needs

@@ -2,14 +2,14 @@
 -- Assumes nothing.
 use borrow.Author.Needs.{needs}
 use Rattle.telling.specs.Told.{yes}
-use Rattle.telling.proofs.HandedSteps.{open-handed}
+use Rattle.telling_steps.proofs.HandedSteps.{open-handed}
 use Rattle.taglib.proofs.sessions.aql_session_open.Statement.{statement}
 use Rattle.taglib.proofs.sessions.aql_session_open.Tie as tie
 use Rattle.taglib.proofs.sessions.aql_session_open.Reads as reads
 use Rattle.taglib.proofs.sessions.aql_session_open.Lts as lts
 use Rattle.session.proofs.open.Reads as open-reads
 use Rattle.telling.proofs.readings.read.Reads as read-reads
-use Rattle.telling.proofs.steps.lengths_in.Reads as lengths-in-reads
+use Rattle.telling_steps.proofs.lengths_in.Reads as lengths-in-reads
 
 lengths-in-requires : tie.Need-lengths-in-requires
 lengths-in-requires c κs = search needs

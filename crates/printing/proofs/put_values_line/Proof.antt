@@ -1,0 +1,55 @@
+-- `put_values_line`: two bytes, the values, and LF.
+-- Assumes nothing.
+use borrow.Author.Needs.{needs}
+use Rattle.printing.proofs.OutputLaws.{line-stored}
+use Rattle.lines.specs.Lines.{decimals}
+use Rattle.printing.proofs.put_values_line.Statement.{statement}
+use Rattle.printing.proofs.put_values_line.Tie as tie
+
+put-requires : tie.Need-put-requires
+put-requires c κs = search needs
+
+add-put : tie.Need-add-put
+add-put c = search needs
+
+put-requires-2 : tie.Need-put-requires-2
+put-requires-2 c κs = search needs
+
+add-put-decimals : tie.Need-add-put-decimals
+add-put-decimals c = search needs
+
+put-decimals-requires : tie.Need-put-decimals-requires
+put-decimals-requires c κs = search needs
+
+put-requires-3 : tie.Need-put-requires-3
+put-requires-3 c κs = search needs
+
+add-result : tie.Need-add-result
+add-result c = search needs
+
+same-length : tie.Need-same-length
+same-length c = search needs
+
+returns : tie.Need-returns
+returns c =
+    let a = c .before .before .before .before .before .before .before .before .before .before .before .before .before .before .before .before .before .before .args in
+    let all = c .before .before .before .before .before .before .put-decimals in
+    let second = c .before .before .before .before .before .before .before .before .before .before .put2 in
+    let first = c .before .before .before .before .before .before .before .before .before .before .before .before .before .before .put in
+    line-stored (a .out .now) (a .at) 77 76 (decimals (a .values .now)) (first .last .0) (second .last .0) (all .last .0)
+    (c .before .before .put3 .last .0)
+    (all .result) (first .ensures) (second .ensures) (all .ensures .1) (all .ensures .0) (c .before .before .put3 .ensures)
+
+pub put-values-line-spec : {M : Type 1} → statement M
+put-values-line-spec =
+    tie.close
+    (tie.spec
+    put-requires
+    add-put
+    put-requires-2
+    add-put-decimals
+    put-decimals-requires
+    put-requires-3
+    add-result
+    same-length
+    returns)
