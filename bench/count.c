@@ -39,7 +39,7 @@ EXPORTED int qemu_plugin_version = 1;
 
 #define BUCKETS 256
 #define CHOOSE_BUCKET 8888
-#define SHOWN_BLOCKS 40
+#define SHOWN_BLOCKS 400
 static uint64_t counted[BUCKETS];
 static unsigned bucket;
 static unsigned shown_bucket; /* 0 where only counts are wanted */

@@ -165,6 +165,14 @@ pub struct Session {
     lengths: [usize; 3],
 }
 
+/// A session's rows as a step takes them: where each begins, and how long it is.
+struct Rows {
+    seq: (*mut u8, usize),
+    mm: (*mut u8, usize),
+    ml: (*mut u8, usize),
+    has_ml: u8,
+}
+
 impl Session {
     /// Opens a session on a tag with an ML or without.
     pub fn open(seq: Vec<u8>, mm: Vec<u8>, ml: Option<Vec<u8>>) -> Result<(Session, Counts), Refusal> {
@@ -203,61 +211,30 @@ impl Session {
         self.has_ml.then(|| &self.ml[..self.lengths[2]])
     }
 
+    fn rows(&mut self) -> Rows {
+        let row = |bytes: &mut Vec<u8>| (bytes.as_mut_ptr(), bytes.len());
+        Rows { seq: row(&mut self.seq), mm: row(&mut self.mm), ml: row(&mut self.ml), has_ml: self.has_ml.into() }
+    }
+
     /// Writes N to the places of SEQ; the calls on these bases go, and they count in no later skip.
     pub fn mask(&mut self, places: &[u32]) -> Result<(), Refusal> {
+        let Rows { seq, mm, ml, has_ml } = self.rows();
         // SAFETY: rows and lengths are borrowed for writing by `self` and are three Vecs and an array, so that none overlaps another or the places.
-        answer(unsafe {
-            aql_session_mask(
-                self.seq.as_mut_ptr(),
-                self.seq.len(),
-                self.mm.as_mut_ptr(),
-                self.mm.len(),
-                self.ml.as_mut_ptr(),
-                self.ml.len(),
-                self.has_ml.into(),
-                &mut self.lengths,
-                places.as_ptr(),
-                places.len(),
-            )
-        })
+        answer(unsafe { aql_session_mask(seq.0, seq.1, mm.0, mm.1, ml.0, ml.1, has_ml, &mut self.lengths, places.as_ptr(), places.len()) })
     }
 
     /// Drops the calls at the places; SEQ stays, so that their bases still count in later skips.
     pub fn drop_calls(&mut self, places: &[u32]) -> Result<(), Refusal> {
+        let Rows { seq, mm, ml, has_ml } = self.rows();
         // SAFETY: as in `mask`; SEQ is only read.
-        answer(unsafe {
-            aql_session_drop_calls(
-                self.seq.as_ptr(),
-                self.seq.len(),
-                self.mm.as_mut_ptr(),
-                self.mm.len(),
-                self.ml.as_mut_ptr(),
-                self.ml.len(),
-                self.has_ml.into(),
-                &mut self.lengths,
-                places.as_ptr(),
-                places.len(),
-            )
-        })
+        answer(unsafe { aql_session_drop_calls(seq.0, seq.1, mm.0, mm.1, ml.0, ml.1, has_ml, &mut self.lengths, places.as_ptr(), places.len()) })
     }
 
     /// Cuts bases off the front and off the back.
     pub fn cut(&mut self, front: u32, back: u32) -> Result<(), Refusal> {
+        let Rows { seq, mm, ml, has_ml } = self.rows();
         // SAFETY: as in `mask`.
-        answer(unsafe {
-            aql_session_cut(
-                self.seq.as_mut_ptr(),
-                self.seq.len(),
-                self.mm.as_mut_ptr(),
-                self.mm.len(),
-                self.ml.as_mut_ptr(),
-                self.ml.len(),
-                self.has_ml.into(),
-                &mut self.lengths,
-                front,
-                back,
-            )
-        })
+        answer(unsafe { aql_session_cut(seq.0, seq.1, mm.0, mm.1, ml.0, ml.1, has_ml, &mut self.lengths, front, back) })
     }
 
     /// The calls that the tag has, in order.
