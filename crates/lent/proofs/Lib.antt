@@ -8,3 +8,5 @@ pub mod InPlace
 pub mod Leaves
 pub mod Tabulate
 pub mod Reversed
+pub mod Answers
+pub mod Cited

@@ -1,3 +1,4 @@
 pub mod Lists
 pub mod Outcome
 pub mod Filled
+pub mod Answers

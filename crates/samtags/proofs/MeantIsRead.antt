@@ -49,9 +49,9 @@ abbrev plain : ℕ → Bool
 unfolding isMark
 plain x = not (eqb x comma) && not (eqb x semicolon) && not (isMark x) && isAscii x
 
-letter-plain : (x : ℕ) → isCodeLetter x ≡ true → plain x ≡ true
+lower-plain : (x : ℕ) → leb 97 x && leb x 122 ≡ true → plain x ≡ true
 unfolding isMark
-letter-plain x e =
+lower-plain x e =
     rw (
       not-true (eqb x 44) (range-not 97 122 44 x (inl (lit< tt)) e),
       not-true (eqb x 59) (range-not 97 122 59 x (inl (lit< tt)) e),
@@ -59,6 +59,13 @@ letter-plain x e =
       not-true (eqb x 63) (range-not 97 122 63 x (inl (lit< tt)) e),
       le-leb x 127 (omega (arith, leb-true x 122 (and-true-r (leb 97 x) (leb x 122) e))),
     )
+
+letter-plain : (x : ℕ) → isCodeLetter x ≡ true → plain x ≡ true
+unfolding isMark
+letter-plain x e =
+    by-test (leb 97 x && leb x 122)
+    (λ low. lower-plain x low)
+    (λ high. among-every plain (ascii "ACGTUN") x refl (rw high at e))
 
 digit-plain : (x : ℕ) → isDigit x ≡ true → plain x ≡ true
 unfolding isMark isDigit

@@ -86,7 +86,7 @@ spelled ps = concatMap pieceText ps
 abbrev pub entriesOf : (List ℕ → ℕ) → (List ℕ → ℕ) → Piece → Entries
 entriesOf base per p = record { base = base (p .header); per = per (p .header); skips = map value (p .skips) }
 
--- ---- SAMtags' own headers: [ACGTUN][-+]([a-z]+|[0-9]+)[.?]?
+-- ---- SAMtags' own headers: [ACGTUN][-+]([a-z]+|[0-9]+)[.?]?, where its table of codes has six letters more, ACGTUN, for any change of that base
 
 pub record Header : Type 0 where
   pub base : ℕ
@@ -94,9 +94,9 @@ pub record Header : Type 0 where
   pub codes : List ℕ
   pub mark : List ℕ
 
--- 'a' to 'z'
+-- 'a' to 'z', or one of the table's upper-case letters
 abbrev pub isCodeLetter : ℕ → Bool
-isCodeLetter x = leb 97 x && leb x 122
+isCodeLetter x = leb 97 x && leb x 122 || among (ascii "ACGTUN") x
 
 -- no mark, '.' or '?'
 abbrev pub isMarkText : List ℕ → Bool
