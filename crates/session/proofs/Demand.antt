@@ -18,7 +18,9 @@ use Rattle.samtags.specs.Session.{openSession, runInMemory, stepInMemory}
 use Rattle.samtags.specs.Spots.{Listing}
 use Rattle.stepping.proofs.StepLaws.{by-answer}
 use Rattle.stepping.specs.Steps.{lengthsOf, stepSays}
-use Rattle.session.specs.Chain.{Call, Chain, Meets, Opened, Rows, atEnd, inMemory, leftBy, mlIn, numbersOf, seqIn, stepsOf, textIn}
+use Rattle.reading.specs.declared.Reading.the-variants as reading
+use Rattle.session.specs.Chain.{Chain, atEnd, leftBy, mlIn, numbersOf, seqIn, stepsOf, textIn}
+use Rattle.session.specs.Contracts.{Call, Meets, Opens, Rows, inMemory}
 
 -- ---- call by call
 
@@ -85,7 +87,7 @@ module _ (ml? : Bool) (w : Rows) where
 
   -- Demand 3: where `open` answered Done, the tag lists as many groups and calls as it said; and whatever calls follow, the session comes to what it
   -- means.
-  pub session-as-meant : (groups calls : ℕ) → Opened ml? w groups calls → (cs : List Call) → Chain ml? w cs
+  pub session-as-meant : (groups calls : ℕ) → Opens ml? w (reading.Done groups calls) → (cs : List Call) → Chain ml? w cs
       → (ls : List Listing) × (lists ml? (seqIn w) (textIn w) (mlIn w) ≡ done ls)
       × (_≡_ {A = ℕ × ℕ} (countsOf ls) (groups, calls)) × As-meant ml? w ls cs
   session-as-meant groups calls opened cs k =

@@ -2,3 +2,5 @@ pub mod Opening
 pub mod Unique
 pub mod Demand
 pub mod Examples
+pub mod Cited
+pub mod ChainExists

@@ -7,14 +7,12 @@
 // numbers and the reader's. `has_ml` false is a session without ML: neither the row lent for one nor its length is then looked at. No public function
 // asks anything of its caller.
 //
-// A step takes work in proportion to SEQ, text, ML and the list of places together. It copies neither text nor ML; its largest local is a row of 16,000
-// bytes, one for each base that SEQ may have; for a SEQ of at most 1,024 bases one of 1,024 is cleared instead.
-ghost use mathlib.Core.Path.{_≡_};
-ghost use Rattle.lent.specs.Outcome.{onDone};
-ghost use Rattle.reading.specs.Answers.{readingSays};
-ghost use Rattle.reading.specs.Calls.{countsOf};
-ghost use Rattle.samtags.specs.Session.{cut, dropCalls, mask, openSession, stepInMemory};
-ghost use Rattle.stepping.specs.Steps.{came, leavesMemory, memory, stepSays};
+// A step walks text, ML and the list of places a fixed number of times, and SEQ for each group anew: the first walk counts the group's letter over
+// the whole of SEQ, also where the group lists nothing. So its work is in proportion to text, ML, places, and SEQ times the number of groups. It copies
+// neither text nor ML; its largest local is a row of 16,000 bytes, one for each base that SEQ may have; for a SEQ of at most 1,024 bases one of 1,024 is
+// cleared instead.
+ghost use Rattle.samtags.specs.Session.{cut, dropCalls, mask};
+ghost use Rattle.session.specs.Contracts.{Meets, Opens, call, rows};
 use reading::Reading;
 use stepping::Lengths;
 use stepping::Stepped;
@@ -23,8 +21,7 @@ use stepping::order::Order;
 
 // Opens a session: how many groups and calls its tag has, or the number of what is wrong with it. Nothing is written.
 pub fn open(seq: &[u8], mm: &[u8], ml: &[u8], has_ml: bool, lengths: Lengths) -> Reading
-    ensures { λ r. ⌜ readingSays r
-        ≡ onDone countsOf (openSession «has_ml» (memory (now (seq .entry)) (now (mm .entry)) (now (ml .entry)) lengths)) ⌝ }
+    ensures { λ r. ⌜ Opens «has_ml» (rows (now (seq .entry)) (now (mm .entry)) (now (ml .entry)) lengths) r ⌝ }
 {
     let found = order::lengths_in_order(seq.len(), mm.len(), ml.len(), has_ml, lengths);
     let Order::Kept = found else {
@@ -46,9 +43,8 @@ pub fn mask(
     lengths: Lengths,
     places: &[u32],
 ) -> Stepped
-    ensures { λ r. ⌜ (let m = memory (now (seq .entry)) (now (mm .entry)) (now (ml .entry)) lengths in
-        came (stepSays r) (now (seq .exit)) (now (mm .exit)) (now (ml .exit))
-        ≡ leavesMemory m (stepInMemory «has_ml» (mask (now (places .entry))) m)) ⌝ }
+    ensures { λ r. ⌜ Meets «has_ml» (rows (now (seq .entry)) (now (mm .entry)) (now (ml .entry)) lengths)
+        (call (mask (now (places .entry))) r (now (seq .exit)) (now (mm .exit)) (now (ml .exit))) ⌝ }
 {
     let found = order::lengths_in_order(seq.len(), mm.len(), ml.len(), has_ml, lengths);
     let Order::Kept = found else {
@@ -72,9 +68,8 @@ pub fn drop_calls(
     lengths: Lengths,
     places: &[u32],
 ) -> Stepped
-    ensures { λ r. ⌜ (let m = memory (now (seq .entry)) (now (mm .entry)) (now (ml .entry)) lengths in
-        came (stepSays r) (now (seq .entry)) (now (mm .exit)) (now (ml .exit))
-        ≡ leavesMemory m (stepInMemory «has_ml» (dropCalls (now (places .entry))) m)) ⌝ }
+    ensures { λ r. ⌜ Meets «has_ml» (rows (now (seq .entry)) (now (mm .entry)) (now (ml .entry)) lengths)
+        (call (dropCalls (now (places .entry))) r (now (seq .entry)) (now (mm .exit)) (now (ml .exit))) ⌝ }
 {
     let found = order::lengths_in_order(seq.len(), mm.len(), ml.len(), has_ml, lengths);
     let Order::Kept = found else {
@@ -99,9 +94,8 @@ pub fn cut(
     front: u32,
     back: u32,
 ) -> Stepped
-    ensures { λ r. ⌜ (let m = memory (now (seq .entry)) (now (mm .entry)) (now (ml .entry)) lengths in
-        came (stepSays r) (now (seq .exit)) (now (mm .exit)) (now (ml .exit))
-        ≡ leavesMemory m (stepInMemory «has_ml» (cut front back) m)) ⌝ }
+    ensures { λ r. ⌜ Meets «has_ml» (rows (now (seq .entry)) (now (mm .entry)) (now (ml .entry)) lengths)
+        (call (cut front back) r (now (seq .exit)) (now (mm .exit)) (now (ml .exit))) ⌝ }
 {
     let found = order::lengths_in_order(seq.len(), mm.len(), ml.len(), has_ml, lengths);
     let Order::Kept = found else {

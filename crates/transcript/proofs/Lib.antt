@@ -3,3 +3,4 @@ pub mod Room
 pub mod OpeningLaws
 pub mod Unique
 pub mod Promises
+pub mod Cited

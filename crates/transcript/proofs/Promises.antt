@@ -8,8 +8,9 @@ use mathlib.Core.Bool.{Bool, true, false, _&&_}
 use mathlib.Core.List.{List, [], _∷_, _++_, append-assoc, map}
 use mathlib.Core.Option.{none, some}
 use lib.Dec.{eqb}
-use lib.ListN.{length}
+use lib.ListN.{length, take}
 use borrow.Author.Tests.{eqb-true, le-leb}
+use Rattle.lent.proofs.Filled.{over-front}
 use Rattle.lent.proofs.Outcome.{need-rest}
 use Rattle.lent.proofs.Tests.{and-true-l, and-true-r, by-test}
 use Rattle.lent.specs.Lists.{concatMap}
@@ -18,12 +19,13 @@ use Rattle.samtags.proofs.SessionMeaning.{session-meaning}
 use Rattle.samtags.specs.Bytes.{ascii}
 use Rattle.samtags.specs.Meaning.{afterSteps, answersTo, leftOfListing, leftOfSeq, opening}
 use Rattle.samtags.specs.Reading.{inDomain, lists, readTag}
-use Rattle.samtags.specs.Session.{Held, Step, afterStep, answers, run, stepped}
+use Rattle.samtags.specs.Session.{Held, Step, afterStep, answers, cut, dropCalls, mask, run, stepped}
 use Rattle.samtags.specs.Spots.{Listing}
 use Rattle.lines.proofs.MarkLaws.{marked-long}
 use Rattle.lines.specs.Lines.{answerLine, hasMark, linesOf, stepOf, valuesOf}
 use Rattle.answering.proofs.LineLaws.{asks-nothing}
 use Rattle.serving.specs.Serving.{afterOpening, closing}
+use Rattle.transcript.specs.Contracts.{Transcribes}
 use Rattle.transcript.specs.Transcript.{fromFirst, fromSecond, fromThird, opened, openedOn, transcriptOf}
 
 -- an answer for each step, and what is held after the last
@@ -88,7 +90,12 @@ third-is-a-step seq text (l ∷ ls) (t ∷ ts) e =
     (λ m. let none-asked : stepOf l ≡ none = ml-line l m in let z : _≡_ {A = ℕ} 0 1 = cc in absurd (omega arith))
     (λ m. rw m)
 
-module _ (input seq text : List ℕ) (fits : length input ≤ 65536) where
+-- `transcript` on an input of at most 65,536 bytes whose first lines are these: it filled r bytes of the row lent as `out`, and left it as out′.
+module _ (input seq text : List ℕ) (fits : length input ≤ 65536) (out : List ℕ) (r : ℕ) (out′ : List ℕ) (told : Transcribes input out r out′) where
+  -- what stands at the front of the row is the output
+  printed : take r out′ ≡ transcriptOf input
+  printed = rw (told .0, told .1) (over-front (transcriptOf input) out)
+
   from-lines : (ls : List (List ℕ)) → linesOf input ≡ (ascii "SQ" ++ seq) ∷ (ascii "MM" ++ text) ∷ ls → transcriptOf input ≡ fromThird seq text ls
   unfolding transcriptOf fromFirst fromSecond
   from-lines ls e = rw (le-leb (length input) 65536 fits, e)
@@ -97,17 +104,52 @@ module _ (input seq text : List ℕ) (fits : length input ≤ 65536) where
   pub tells-with-ml : (line ml : List ℕ) (ls : List (List ℕ)) (ts : List Step) (listed : List Listing)
       → linesOf input ≡ (ascii "SQ" ++ seq) ∷ (ascii "MM" ++ text) ∷ line ∷ ls → hasMark "ML" line ≡ true → valuesOf line ≡ some ml
       → readTag true seq text ml ≡ done listed → map stepOf ls ≡ map some ts
-      → Tells true (record { seq = seq; text = text; ml = ml }) listed ts (transcriptOf input)
+      → Tells true (record { seq = seq; text = text; ml = ml }) listed ts (take r out′)
   unfolding fromThird
-  tells-with-ml line ml ls ts listed e m v r g =
+  tells-with-ml line ml ls ts listed e m v read g =
       let third : fromThird seq text (line ∷ ls) ≡ openedOn true seq text ml ls = rw (m, v) in
-      subst (Tells true (record { seq = seq; text = text; ml = ml }) listed ts) (sym (from-lines (line ∷ ls) e ∙ third))
-      (session-told true seq text ml listed r ls ts g)
+      subst (Tells true (record { seq = seq; text = text; ml = ml }) listed ts) (sym (printed ∙ from-lines (line ∷ ls) e ∙ third))
+      (session-told true seq text ml listed read ls ts g)
 
   -- and one without
   pub tells-without-ml : (ls : List (List ℕ)) (ts : List Step) (listed : List Listing)
       → linesOf input ≡ (ascii "SQ" ++ seq) ∷ (ascii "MM" ++ text) ∷ ls → readTag false seq text [] ≡ done listed → map stepOf ls ≡ map some ts
-      → Tells false (record { seq = seq; text = text; ml = [] }) listed ts (transcriptOf input)
-  tells-without-ml ls ts listed e r g =
-      subst (Tells false (record { seq = seq; text = text; ml = [] }) listed ts) (sym (from-lines ls e ∙ third-is-a-step seq text ls ts g))
-      (session-told false seq text [] listed r ls ts g)
+      → Tells false (record { seq = seq; text = text; ml = [] }) listed ts (take r out′)
+  tells-without-ml ls ts listed e read g =
+      subst (Tells false (record { seq = seq; text = text; ml = [] }) listed ts) (sym (printed ∙ from-lines ls e ∙ third-is-a-step seq text ls ts g))
+      (session-told false seq text [] listed read ls ts g)
+
+-- ---- the hypotheses can be met: the scope's case, whatever row is lent
+
+module _ (out : List ℕ) (r : ℕ) (out′ : List ℕ) where
+  abbrev seq : List ℕ
+  seq = ascii "ACCGTCC"
+
+  abbrev text : List ℕ
+  text = ascii "C+m?,0,1,0;"
+
+  abbrev ml : List ℕ
+  ml = 200 ∷ 90 ∷ 30 ∷ []
+
+  abbrev steps : List Step
+  steps = mask (1 ∷ []) ∷ dropCalls (5 ∷ []) ∷ cut 3 0 ∷ []
+
+  abbrev calls : List Listing
+  calls = record {
+    header = ascii "C+m?";
+    calls = record { place = 1; values = 200 ∷ [] } ∷ record { place = 5; values = 90 ∷ [] } ∷ record { place = 6; values = 30 ∷ [] } ∷ [];
+  } ∷ []
+
+  pub scope-case-told : Transcribes (ascii "SQACCGTCC\nMMC+m?,0,1,0;\nML200,90,30\nMK1\nDR5\nCU3,0\n") out r out′
+      → Tells true (record { seq = seq; text = text; ml = ml }) calls steps (take r out′)
+  unfolding valuesOf readTag stepOf
+  scope-case-told told =
+      tells-with-ml (ascii "SQACCGTCC\nMMC+m?,0,1,0;\nML200,90,30\nMK1\nDR5\nCU3,0\n") seq text (omega arith) out r out′ told (ascii "ML200,90,30") ml
+      (ascii "MK1" ∷ ascii "DR5" ∷ ascii "CU3,0" ∷ []) steps calls refl refl refl refl refl
+
+  pub scope-case-told-without-ml : Transcribes (ascii "SQACCGTCC\nMMC+m?,0,1,0;\nMK1\n") out r out′
+      → (listed : List Listing) × Tells false (record { seq = seq; text = text; ml = [] }) listed (mask (1 ∷ []) ∷ []) (take r out′)
+  unfolding readTag stepOf
+  scope-case-told-without-ml told =
+      (_, tells-without-ml (ascii "SQACCGTCC\nMMC+m?,0,1,0;\nMK1\n") seq text (omega arith) out r out′ told (ascii "MK1" ∷ []) (mask (1 ∷ []) ∷ []) _ refl
+      refl refl)

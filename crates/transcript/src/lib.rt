@@ -6,12 +6,12 @@
 ghost use mathlib.Core.Path.{_≡_};
 ghost use Prim.Native.Nat.{_+_, _≤_};
 ghost use lib.ListN.{length, drop, take};
-ghost use Rattle.lent.specs.Filled.{over};
 ghost use Rattle.lent.specs.Outcome.{numberOf};
 ghost use Rattle.reading.specs.Answers.{readingSays};
 ghost use Rattle.lines.specs.Lines.{linesOf};
+ghost use Rattle.transcript.specs.Contracts.{Transcribes};
 ghost use Rattle.transcript.specs.Desk.{DeskFits, Said};
-ghost use Rattle.transcript.specs.Transcript.{openedOn, fromThird, fromSecond, fromFirst, transcriptOf};
+ghost use Rattle.transcript.specs.Transcript.{openedOn, fromThird, fromSecond, fromFirst};
 use operands::Values;
 use reading::Reading;
 use stepping::Lengths;
@@ -153,8 +153,7 @@ pub fn transcript(
     ml: &mut [u8; 32768],
     out: &mut [u8; 81925],
 ) -> usize
-    ensures { λ r. ⌜ (r ≡ length (transcriptOf (now (input .entry))))
-        × (now (out .exit) ≡ over (transcriptOf (now (input .entry))) (now (out .entry))) ⌝ }
+    ensures { λ r. ⌜ Transcribes (now (input .entry)) (now (out .entry)) r (now (out .exit)) ⌝ }
 {
     if 65536 < input.len() {
         return printing::put_answer(out, 0, 1);

@@ -1,0 +1,47 @@
+-- What the contract of each public call says: one proposition a call, which its `ensures` cites and every theorem about the code takes.
+-- Assumes nothing.
+use mathlib.Core.Path.{_≡_}
+use Prim.Native.Nat.{ℕ}
+use mathlib.Core.Bool.{Bool}
+use mathlib.Core.List.{List}
+use Rattle.lent.specs.Outcome.{onDone}
+use Rattle.reading.specs.Answers.{readingSays}
+use Rattle.reading.specs.Calls.{countsOf}
+use Rattle.reading.specs.declared.Reading.{Reading}
+use Rattle.samtags.specs.Session.{Memory, Step, openSession, stepInMemory}
+use Rattle.stepping.specs.Steps.{came, leavesMemory, memory, stepSays}
+use Rattle.stepping.specs.declared.Lengths.{Lengths}
+use Rattle.stepping.specs.declared.Stepped.{Stepped}
+
+-- the lent rows and the session's lengths, as a call finds them
+pub record Rows : Type 0 where
+  pub seq : List ℕ
+  pub mm : List ℕ
+  pub ml : List ℕ
+  pub lengths : Lengths
+
+abbrev pub rows : List ℕ → List ℕ → List ℕ → Lengths → Rows
+rows seq mm ml n = record { seq = seq; mm = mm; ml = ml; lengths = n }
+
+abbrev pub inMemory : Rows → Memory
+inMemory w = memory (w .seq) (w .mm) (w .ml) (w .lengths)
+
+-- `open` on these rows: how many groups and calls the tag lists, or the number of what is wrong
+abbrev pub Opens : Bool → Rows → Reading → Type 0
+Opens ml? w r = readingSays r ≡ onDone countsOf (openSession ml? (inMemory w))
+
+-- a call of `mask`, `drop_calls` or `cut`: the step that was asked for, the answer, and the rows as it left them (of a drop SEQ's as it was lent)
+pub record Call : Type 0 where
+  pub asked : Step
+  pub answered : Stepped
+  pub seq : List ℕ
+  pub mm : List ℕ
+  pub ml : List ℕ
+
+abbrev pub call : Step → Stepped → List ℕ → List ℕ → List ℕ → Call
+call t r seq mm ml = record { asked = t; answered = r; seq = seq; mm = mm; ml = ml }
+
+-- The three steps share one contract: the answer and the rows as left are what the step comes to on these rows.
+abbrev pub Meets : Bool → Rows → Call → Type 0
+Meets ml? w c =
+    came (stepSays (c .answered)) (c .seq) (c .mm) (c .ml) ≡ leavesMemory (inMemory w) (stepInMemory ml? (c .asked) (inMemory w))
