@@ -34,7 +34,7 @@ same-rows w u e = λ j. record {
 }
 
 -- a call does to memory what its step does
-follows : (ml? : Bool) (w : Rows) (c : Call) → Meets ml? w c
+pub follows : (ml? : Bool) (w : Rows) (c : Call) → Meets ml? w c
     → (inMemory (leftBy w c) ≡ afterStep (inMemory w) (stepInMemory ml? (c .asked) (inMemory w)))
     × (numberOf (stepSays (c .answered)) ≡ numberOf (stepInMemory ml? (c .asked) (inMemory w)))
 follows ml? w c e = by-answer (inMemory w) (w .lengths) refl (c .answered) (stepInMemory ml? (c .asked) (inMemory w)) (c .seq) (c .mm) (c .ml) e

@@ -4,3 +4,4 @@ pub mod Demand
 pub mod Examples
 pub mod Cited
 pub mod ChainExists
+pub mod Numbers
