@@ -26,8 +26,8 @@ pub gate-to-informative-cited : Gives 3 gate.ps gate.r gate-reads.Post
 gate-to-informative-cited κs a r e p = p
 
 pub truncate-cited : Gives 6 cut.ps cut.r cut-reads.Post
-    (λ κs a r e. Truncates (a .0) (a .1 .0 .now) (a .1 .1 .0 .now) (a .1 .1 .1 .0 .now) (a .1 .1 .1 .1 .0 .now) (a .1 .1 .1 .1 .1 .0 .now) (a .1 .1 .1 .1 .1 .1 .0 .now)
-    r (e .1 .1 .1 .1 .0 .now) (e .1 .1 .1 .1 .1 .0 .now) (e .1 .1 .1 .1 .1 .1 .0 .now))
+    (λ κs a r e. Truncates (a .0) (a .1 .0 .now) (a .1 .1 .0 .now) (a .1 .1 .1 .0 .now) (a .1 .1 .1 .1 .0 .now) (a .1 .1 .1 .1 .1 .0 .now)
+    (a .1 .1 .1 .1 .1 .1 .0 .now) r (e .1 .1 .1 .1 .0 .now) (e .1 .1 .1 .1 .1 .0 .now) (e .1 .1 .1 .1 .1 .1 .0 .now))
 truncate-cited κs a r e p = p
 
 pub unconverted-counts-cited : Gives 4 unconverted.ps unconverted.r unconverted-reads.Post

@@ -62,7 +62,8 @@ pub fn gate_to_informative(
     unconverted: &mut [u32],
     converted: &mut [u32],
 ) -> Written
-    ensures { λ r. ⌜ Gates (now (informative .entry)) (now (unconverted .entry)) (now (converted .entry)) r (now (unconverted .exit)) (now (converted .exit)) ⌝ }
+    ensures { λ r. ⌜ Gates (now (informative .entry)) (now (unconverted .entry)) (now (converted .entry))
+        r (now (unconverted .exit)) (now (converted .exit)) ⌝ }
 {
     let asked = refusals::columns_of(informative.len(), unconverted.len(), converted.len());
     let Written::Done(_) = asked else {

@@ -29,6 +29,7 @@ pub gated-cited : Gives 0 gated.ps gated.r gated-reads.Post (λ κs a r e. Gates
 gated-cited κs a r e p = p
 
 -- `gate_row` is proved by hand, and has no `Reads`: its contract is what its clauses ensure, of the row's last contents `ws`
-pub gate-row-cited : {M : Type 1} (𝓤 : URA M) (H : Heap 𝓤) (A : Atoms 𝓤) (mem : Memory → SProp 𝓤) (run : Routine → Fun 𝓤) (κs : _) (a : _) (r : Written) (ws : _)
+pub gate-row-cited : {M : Type 1} (𝓤 : URA M) (H : Heap 𝓤) (A : Atoms 𝓤) (mem : Memory → SProp 𝓤) (run : Routine → Fun 𝓤)
+    (κs : _) (a : _) (r : Written) (ws : _)
     → ent 𝓤 (row.clauses 𝓤 H A mem run κs a .ensures tt r (atExit row.ended κs a ws)) (fact 𝓤 (GatesRow (a .0 .now) r (ws .0)))
 gate-row-cited 𝓤 H A mem run κs a r ws = id⊢ 𝓤 _

@@ -22,6 +22,8 @@ gate-row-numbers row r row′ p =
     (answers (1 ∷ []) (rowOf (length row)) refl (only-need (1 ∷ []) (leb (length row) 16000) 1 (done (length row)) refl refl))
 
 -- a row of one record, and one of 16,001
-pub gate-row-each-number : map (λ (row : List MethylationEvidence). numberOf (rowOf (length row))) ((fresh false ∷ []) ∷ replicate 16001 (fresh false) ∷ []) ≡ 0 ∷ 1 ∷ []
+pub gate-row-each-number :
+    map (λ (row : List MethylationEvidence). numberOf (rowOf (length row))) ((fresh false ∷ []) ∷ replicate 16001 (fresh false) ∷ [])
+    ≡ 0 ∷ 1 ∷ []
 unfolding rowOf
 gate-row-each-number = refl
