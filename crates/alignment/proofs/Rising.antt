@@ -117,7 +117,8 @@ places-lie true words start i m e =
     let x = from-end l i m (rw (reverse-is-mirror words start) at e) in
     lies (forward-rises start words) (length l - i - 1) m (x .1)
 
--- ---- bases that have places: the third and the sixth of a read whose alignment is 2S3M1D2M from 100, in either orientation
+-- ---- bases that have places, of a read whose alignment is 2S3M1D2M from 100: the third and the sixth of a forward one, the first and the fifth of a
+-- reverse one
 
 abbrev clipped : List ℕ
 clipped = 36 ∷ 48 ∷ 18 ∷ 32 ∷ []
