@@ -3,3 +3,5 @@ pub mod Mirror
 pub mod Rising
 pub mod Examples
 pub mod Unique
+pub mod Cited
+pub mod Numbers

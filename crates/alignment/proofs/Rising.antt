@@ -1,6 +1,6 @@
 -- The places of a forward read rise strictly, those of a reverse read fall, and all lie on the alignment: not before its start, and before its end.
 -- Assumes nothing.
-use mathlib.Core.Path.{_≡_, sym, _∙_}
+use mathlib.Core.Path.{_≡_, refl, sym, _∙_}
 use mathlib.Core.Logic.{⊎-elim}
 use mathlib.Core.Bool.{Bool, true, false}
 use mathlib.Core.List.{List, [], _∷_, _++_, reverse}
@@ -116,3 +116,22 @@ places-lie true words start i m e =
     let l = forward start words in
     let x = from-end l i m (rw (reverse-is-mirror words start) at e) in
     lies (forward-rises start words) (length l - i - 1) m (x .1)
+
+-- ---- bases that have places, of a read whose alignment is 2S3M1D2M from 100: the third and the sixth of a forward one, the first and the fifth of a
+-- reverse one
+
+abbrev clipped : List ℕ
+clipped = 36 ∷ 48 ∷ 18 ∷ 32 ∷ []
+
+pub places-of-a-read :
+    (getD (readPlaces false clipped 100) 2 missing ≡ pos 100) × (getD (readPlaces false clipped 100) 5 missing ≡ pos 104)
+    × (getD (readPlaces true clipped 100) 0 missing ≡ pos 105) × (getD (readPlaces true clipped 100) 4 missing ≡ pos 100)
+places-of-a-read = (refl, refl, refl, refl)
+
+-- so the three above speak of it
+pub places-of-a-read-rise : (100 < 104) × (100 < 105) × (104 < 100 + referenceSpan clipped)
+places-of-a-read-rise = (
+  places-rise clipped 100 2 5 100 104 (omega arith) (places-of-a-read .0) (places-of-a-read .1),
+  places-fall clipped 100 0 4 105 100 (omega arith) (places-of-a-read .2) (places-of-a-read .3),
+  places-lie false clipped 100 5 104 (places-of-a-read .1) .1,
+)

@@ -6,41 +6,26 @@ use mathlib.Core.List.{List}
 use Prim.Native.Nat.{ℕ}
 use lib.IntN.{ℤ}
 use lib.ListN.{length}
-use Rattle.lent.specs.Outcome.{Outcome, says, onDone}
-use Rattle.lent.specs.Filled.{leaves}
+use Rattle.lent.specs.Outcome.{Outcome, says}
 use Rattle.lent.specs.declared.Written.{Written}
 use Rattle.lent.proofs.Outcome.{says-inj}
 use Rattle.lent.proofs.Filled.{settled}
 use Rattle.cigar.specs.Cigar.{queryPlaces}
-use Rattle.alignment.specs.Reference.{isCpg, fetchedBases}
+use Rattle.alignment.specs.Contracts.{Fills, FindsPlaces, TellsCpg, FetchesBases}
+use Rattle.alignment.specs.Reference.{fetchedBases}
 
--- an answer and a row, as a call leaves them that comes to `o`
 one-outcome : {A : Type 0} (o : Outcome (List A)) (row : List A) (r s : Written) (out out′ : List A)
-    → (says r ≡ onDone length o) × (out ≡ leaves (λ l. l) o row)
-    → (says s ≡ onDone length o) × (out′ ≡ leaves (λ l. l) o row)
-    → (r ≡ s) × (out ≡ out′)
+    → Fills o row r out → Fills o row s out′ → (r ≡ s) × (out ≡ out′)
 one-outcome o row r s out out′ p q = (says-inj r s (settled (says r) (says s) (p .0) (q .0)), settled out out′ (p .1) (q .1))
 
-module _ (cigar : List ℕ) (start : ℤ) (reversed : Bool) (row : List ℤ) where
-  abbrev places : Outcome (List ℤ)
-  places = queryPlaces cigar start reversed (length row)
-
-  pub query-to-ref-positions-unique : (r s : Written) (out out′ : List ℤ)
-      → (says r ≡ onDone length places) × (out ≡ leaves (λ l. l) places row)
-      → (says s ≡ onDone length places) × (out′ ≡ leaves (λ l. l) places row)
-      → (r ≡ s) × (out ≡ out′)
-  query-to-ref-positions-unique = one-outcome places row
+pub query-to-ref-positions-unique : (cigar : List ℕ) (start : ℤ) (reversed : Bool) (row : List ℤ) (r s : Written) (out out′ : List ℤ)
+    → FindsPlaces cigar start reversed row r out → FindsPlaces cigar start reversed row s out′ → (r ≡ s) × (out ≡ out′)
+query-to-ref-positions-unique cigar start reversed row = one-outcome (queryPlaces cigar start reversed (length row)) row
 
 pub is-cpg-context-unique : (reference : List ℕ) (place : ℕ) (top : Bool) (r s : Bool)
-    → r ≡ isCpg reference place top → s ≡ isCpg reference place top → r ≡ s
+    → TellsCpg reference place top r → TellsCpg reference place top s → r ≡ s
 is-cpg-context-unique reference place top r s = settled r s
 
-module _ (positions : List ℤ) (reference row : List ℕ) where
-  abbrev bases : Outcome (List ℕ)
-  bases = fetchedBases positions reference (length row)
-
-  pub fetch-ref-bases-at-positions-unique : (r s : Written) (out out′ : List ℕ)
-      → (says r ≡ onDone length bases) × (out ≡ leaves (λ l. l) bases row)
-      → (says s ≡ onDone length bases) × (out′ ≡ leaves (λ l. l) bases row)
-      → (r ≡ s) × (out ≡ out′)
-  fetch-ref-bases-at-positions-unique = one-outcome bases row
+pub fetch-ref-bases-at-positions-unique : (places : List ℤ) (reference row : List ℕ) (r s : Written) (out out′ : List ℕ)
+    → FetchesBases places reference row r out → FetchesBases places reference row s out′ → (r ≡ s) × (out ≡ out′)
+fetch-ref-bases-at-positions-unique places reference row = one-outcome (fetchedBases places reference (length row)) row

@@ -1,15 +1,12 @@
 // Where an alignment puts a read's bases, and the reference under them: port step 2.
 //
-// Names are the Rust's. No public function asks anything of its caller, and each contract is an equation with a definition, of `cigar` for the places
-// (its check and the walk of `walking` do the work) and of specs/ for the reference.
+// Names are the Rust's. No public function asks anything of its caller, and each contract is one proposition of specs/Contracts, over definitions of
+// `cigar` for the places (its check and the walk of `walking` do the work) and of specs/ for the reference.
 ghost use mathlib.Core.Path.{_≡_};
 ghost use mathlib.Core.Bool.{_&&_};
 ghost use Prim.Native.Nat.{_+_};
-ghost use lib.ListN.{length};
-ghost use Rattle.lent.specs.Outcome.{says, onDone};
-ghost use Rattle.lent.specs.Filled.{leaves};
-ghost use Rattle.cigar.specs.Cigar.{queryPlaces};
-ghost use Rattle.alignment.specs.Reference.{holdsAt, isCpg, baseAt, fetchedBases};
+ghost use Rattle.alignment.specs.Contracts.{FindsPlaces, TellsCpg, FetchesBases};
+ghost use Rattle.alignment.specs.Reference.{holdsAt, baseAt};
 use cigar::check;
 use cigar::start_of;
 use lent::Refusal;
@@ -26,9 +23,7 @@ pub fn query_to_ref_positions(
     is_reverse: bool,
     positions: &mut [i64],
 ) -> Written
-    ensures { λ r. ⌜ (says r ≡ onDone length (queryPlaces (now (cigar .entry)) «alignment_start» «is_reverse» (length (now (positions .entry)))))
-        × (now (positions .exit)
-        ≡ leaves (λ l. l) (queryPlaces (now (cigar .entry)) «alignment_start» «is_reverse» (length (now (positions .entry)))) (now (positions .entry))) ⌝ }
+    ensures { λ r. ⌜ FindsPlaces (now (cigar .entry)) «alignment_start» «is_reverse» (now (positions .entry)) r (now (positions .exit)) ⌝ }
 {
     let checked = check(cigar, alignment_start);
     let Written::Done(bases) = checked else {
@@ -66,7 +61,7 @@ fn is_pair_at(reference: &[u8], place: usize) -> bool
 
 // The place lies in a CpG: for the top strand a C with a G behind it, for the bottom strand a G with a C before it. Off the slice is no.
 pub fn is_cpg_context(ref_seq: &[u8], pos: usize, is_top_strand: bool) -> bool
-    ensures { λ r. ⌜ r ≡ isCpg (now («ref_seq» .entry)) pos «is_top_strand» ⌝ }
+    ensures { λ r. ⌜ TellsCpg (now («ref_seq» .entry)) pos «is_top_strand» r ⌝ }
 {
     if is_top_strand {
         return is_pair_at(ref_seq, pos);
@@ -98,9 +93,7 @@ pub fn fetch_ref_bases_at_positions(
     reference: &[u8],
     bases: &mut [u8],
 ) -> Written
-    ensures { λ r. ⌜ (says r ≡ onDone length (fetchedBases (now («ref_positions» .entry)) (now (reference .entry)) (length (now (bases .entry)))))
-        × (now (bases .exit)
-        ≡ leaves (λ l. l) (fetchedBases (now («ref_positions» .entry)) (now (reference .entry)) (length (now (bases .entry)))) (now (bases .entry))) ⌝ }
+    ensures { λ r. ⌜ FetchesBases (now («ref_positions» .entry)) (now (reference .entry)) (now (bases .entry)) r (now (bases .exit)) ⌝ }
 {
     if bases.len() < ref_positions.len() {
         return Written::Refused(Refusal(12));

@@ -2,3 +2,5 @@ pub mod Outcomes
 pub mod Unique
 pub mod Examples
 pub mod GatedRow
+pub mod Cited
+pub mod Numbers

@@ -5,32 +5,16 @@ use Prim.Native.Nat.{ℕ}
 use mathlib.Core.Bool.{Bool}
 use mathlib.Core.List.{List}
 use lib.IntN.{ℤ}
-use lib.ListN.{length, take}
 use Rattle.lent.proofs.Filled.{settled}
 use Rattle.lent.proofs.Outcome.{says-inj}
-use Rattle.lent.specs.Filled.{leaves}
 use Rattle.lent.specs.Outcome.{Outcome, says}
 use Rattle.lent.specs.declared.Written.{Written}
 use Rattle.pattern.specs.declared.ConversionPattern.{ConversionPattern}
-use Rattle.columns.specs.Columns.{gatedCounts, asYes, asTagCounts, restored, informativeColumn}
-use Rattle.refusals.specs.Refusals.{columnsOf, restorable, truncated, countsInRoom, annotated}
-use Rattle.counting.specs.Reads.{unconvertedColumn, convertedColumn, readsOf}
+use Rattle.annotation.specs.Contracts.{Annotates, Gates, Truncates, GivesCounts, Restores}
 
 -- an answer with what it says, and a row with what it is left as
 same-answer : {o : Outcome ℕ} (r s : Written) → says r ≡ o → says s ≡ o → r ≡ s
 same-answer r s p q = says-inj r s (p ∙ sym q)
-
--- ---- what each call promises, of an answer and the rows as they are afterwards
-
-abbrev pub Annotates : ℕ → List ℕ → List ℕ → List ℕ → ConversionPattern → List ℕ → Bool → List ℕ → List ℕ → List ℕ
-    → Written → List ℕ → List ℕ → List ℕ → Type 0
-Annotates n lengths bases row p aligned all? inf unc con r inf′ unc′ con′ =
-    let o = annotated n lengths bases aligned (length inf) (length unc) (length con) in
-    let reads = readsOf lengths bases aligned in
-    (says r ≡ o)
-    × (inf′ ≡ leaves (informativeColumn p row) o inf)
-    × (unc′ ≡ leaves (unconvertedColumn p all? row reads) o unc)
-    × (con′ ≡ leaves (convertedColumn p all? row reads) o con)
 
 pub annotate-simplex-methylation-unique : (n : ℕ) (lengths bases row : List ℕ) (p : ConversionPattern) (aligned : List ℕ) (all? : Bool)
     (inf unc con : List ℕ)
@@ -40,34 +24,15 @@ pub annotate-simplex-methylation-unique : (n : ℕ) (lengths bases row : List �
 annotate-simplex-methylation-unique n lengths bases row p aligned all? inf unc con r s i j u v c d a b =
     (same-answer r s (a .0) (b .0), settled i j (a .1) (b .1), settled u v (a .2) (b .2), settled c d (a .3) (b .3))
 
-abbrev pub Gates : List ℕ → List ℕ → List ℕ → Written → List ℕ → List ℕ → Type 0
-Gates inf unc con r unc′ con′ =
-    let o = columnsOf (length inf) (length unc) (length con) in
-    (says r ≡ o) × (unc′ ≡ leaves (λ (n : ℕ). gatedCounts inf unc) o unc) × (con′ ≡ leaves (λ (n : ℕ). gatedCounts inf con) o con)
-
 pub gate-to-informative-unique : (inf unc con : List ℕ) (r s : Written) (u v c d : List ℕ)
     → Gates inf unc con r u c → Gates inf unc con s v d → (r ≡ s) × (u ≡ v) × (c ≡ d)
 gate-to-informative-unique inf unc con r s u v c d a b = (same-answer r s (a .0) (b .0), settled u v (a .1) (b .1), settled c d (a .2) (b .2))
-
-abbrev pub Truncates : ℕ → List ℕ → List ℕ → List ℕ → List ℕ → List ℕ → List ℕ → Written → List ℕ → List ℕ → List ℕ → Type 0
-Truncates len inf unc con keptInf keptUnc keptCon r inf′ unc′ con′ =
-    let o = truncated len (length inf) (length unc) (length con) (length keptInf) (length keptUnc) (length keptCon) in
-    (says r ≡ o)
-    × (inf′ ≡ leaves (λ (k : ℕ). asYes (take k inf)) o keptInf)
-    × (unc′ ≡ leaves (λ (k : ℕ). take k unc) o keptUnc)
-    × (con′ ≡ leaves (λ (k : ℕ). take k con) o keptCon)
 
 pub truncate-unique : (len : ℕ) (inf unc con keptInf keptUnc keptCon : List ℕ) (r s : Written) (i j u v c d : List ℕ)
     → Truncates len inf unc con keptInf keptUnc keptCon r i u c → Truncates len inf unc con keptInf keptUnc keptCon s j v d
     → (r ≡ s) × (i ≡ j) × (u ≡ v) × (c ≡ d)
 truncate-unique len inf unc con keptInf keptUnc keptCon r s i j u v c d a b =
     (same-answer r s (a .0) (b .0), settled i j (a .1) (b .1), settled u v (a .2) (b .2), settled c d (a .3) (b .3))
-
--- `column` is the one of the two whose counts are asked for
-abbrev pub GivesCounts : List ℕ → List ℕ → List ℕ → List ℕ → List ℤ → Written → List ℤ → Type 0
-GivesCounts column inf unc con counts r counts′ =
-    let o = countsInRoom (length inf) (length unc) (length con) (length counts) in
-    (says r ≡ o) × (counts′ ≡ leaves (λ (n : ℕ). asTagCounts column) o counts)
 
 counts-unique : (column inf unc con : List ℕ) (counts : List ℤ) (r s : Written) (c d : List ℤ)
     → GivesCounts column inf unc con counts r c → GivesCounts column inf unc con counts s d → (r ≡ s) × (c ≡ d)
@@ -80,11 +45,6 @@ unconverted-counts-unique inf unc con = counts-unique unc inf unc con
 pub converted-counts-unique : (inf unc con : List ℕ) (counts : List ℤ) (r s : Written) (c d : List ℤ)
     → GivesCounts con inf unc con counts r c → GivesCounts con inf unc con counts s d → (r ≡ s) × (c ≡ d)
 converted-counts-unique inf unc con = counts-unique con inf unc con
-
-abbrev pub Restores : List ℕ → ConversionPattern → List ℕ → Written → List ℕ → Type 0
-Restores seq p inf r seq′ =
-    let o = restorable (length seq) (length inf) in
-    (says r ≡ o) × (seq′ ≡ leaves (λ (n : ℕ). restored p inf seq) o seq)
 
 pub restore-unconverted-bases-unique : (seq : List ℕ) (p : ConversionPattern) (inf : List ℕ) (r s : Written) (t u : List ℕ)
     → Restores seq p inf r t → Restores seq p inf s u → (r ≡ s) × (t ≡ u)

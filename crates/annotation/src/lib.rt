@@ -1,16 +1,9 @@
 // The methylation annotation of a consensus: counting it from reads, gating, truncating, the counts as tags hold them, restoring SEQ. Port step 3.
 //
 // Names are the Rust's. The Rust's vector of evidence is three lent columns: informative (nonzero is yes, and yes is written as 1), unconverted and
-// converted. No function here asks anything of its caller, and each contract is an equation with definitions of the crates `refusals`, `columns` and
-// `counting`, whose functions find out whether a call is refused and, where it is not, do the work.
-ghost use mathlib.Core.Path.{_≡_};
-ghost use Prim.Native.Nat.{ℕ};
-ghost use lib.ListN.{length, take};
-ghost use Rattle.lent.specs.Outcome.{says};
-ghost use Rattle.lent.specs.Filled.{leaves};
-ghost use Rattle.counting.specs.Reads.{readsOf, unconvertedColumn, convertedColumn};
-ghost use Rattle.columns.specs.Columns.{informativeColumn, gatedCounts, asYes, asTagCounts, restored};
-ghost use Rattle.refusals.specs.Refusals.{annotated, columnsOf, restorable, truncated, countsInRoom};
+// converted. No function here asks anything of its caller, and each contract is one proposition of specs/Contracts, over definitions of the crates
+// `refusals`, `columns` and `counting`, whose functions find out whether a call is refused and, where it is not, do the work.
+ghost use Rattle.annotation.specs.Contracts.{Annotates, Gates, Truncates, GivesCounts, Restores};
 use lent::Written;
 use pattern::ConversionPattern;
 
@@ -32,14 +25,9 @@ pub fn annotate_simplex_methylation(
     unconverted: &mut [u32],
     converted: &mut [u32],
 ) -> Written
-    ensures { λ r. ⌜ (let o = annotated «consensus_len» (now («read_lengths» .entry)) (now («read_bases» .entry)) (now («read_aligned» .entry))
-        (length (now (informative .entry))) (length (now (unconverted .entry))) (length (now (converted .entry))) in
-        let row = now («ref_bases» .entry) in
-        let reads = readsOf (now («read_lengths» .entry)) (now («read_bases» .entry)) (now («read_aligned» .entry)) in
-        (says r ≡ o)
-        × (now (informative .exit) ≡ leaves (informativeColumn pattern row) o (now (informative .entry)))
-        × (now (unconverted .exit) ≡ leaves (unconvertedColumn pattern «count_all_positions» row reads) o (now (unconverted .entry)))
-        × (now (converted .exit) ≡ leaves (convertedColumn pattern «count_all_positions» row reads) o (now (converted .entry)))) ⌝ }
+    ensures { λ r. ⌜ Annotates «consensus_len» (now («read_lengths» .entry)) (now («read_bases» .entry)) (now («ref_bases» .entry)) pattern
+        (now («read_aligned» .entry)) «count_all_positions» (now (informative .entry)) (now (unconverted .entry)) (now (converted .entry))
+        r (now (informative .exit)) (now (unconverted .exit)) (now (converted .exit)) ⌝ }
 {
     let asked = refusals::annotated(
         consensus_len,
@@ -74,10 +62,8 @@ pub fn gate_to_informative(
     unconverted: &mut [u32],
     converted: &mut [u32],
 ) -> Written
-    ensures { λ r. ⌜ (let o = columnsOf (length (now (informative .entry))) (length (now (unconverted .entry))) (length (now (converted .entry))) in
-        (says r ≡ o)
-        × (now (unconverted .exit) ≡ leaves (λ (n : ℕ). gatedCounts (now (informative .entry)) (now (unconverted .entry))) o (now (unconverted .entry)))
-        × (now (converted .exit) ≡ leaves (λ (n : ℕ). gatedCounts (now (informative .entry)) (now (converted .entry))) o (now (converted .entry)))) ⌝ }
+    ensures { λ r. ⌜ Gates (now (informative .entry)) (now (unconverted .entry)) (now (converted .entry))
+        r (now (unconverted .exit)) (now (converted .exit)) ⌝ }
 {
     let asked = refusals::columns_of(informative.len(), unconverted.len(), converted.len());
     let Written::Done(_) = asked else {
@@ -99,12 +85,9 @@ pub fn truncate(
     kept_unconverted: &mut [u32],
     kept_converted: &mut [u32],
 ) -> Written
-    ensures { λ r. ⌜ (let o = truncated len (length (now (informative .entry))) (length (now (unconverted .entry))) (length (now (converted .entry)))
-        (length (now («kept_informative» .entry))) (length (now («kept_unconverted» .entry))) (length (now («kept_converted» .entry))) in
-        (says r ≡ o)
-        × (now («kept_informative» .exit) ≡ leaves (λ (k : ℕ). asYes (take k (now (informative .entry)))) o (now («kept_informative» .entry)))
-        × (now («kept_unconverted» .exit) ≡ leaves (λ (k : ℕ). take k (now (unconverted .entry))) o (now («kept_unconverted» .entry)))
-        × (now («kept_converted» .exit) ≡ leaves (λ (k : ℕ). take k (now (converted .entry))) o (now («kept_converted» .entry)))) ⌝ }
+    ensures { λ r. ⌜ Truncates len (now (informative .entry)) (now (unconverted .entry)) (now (converted .entry))
+        (now («kept_informative» .entry)) (now («kept_unconverted» .entry)) (now («kept_converted» .entry))
+        r (now («kept_informative» .exit)) (now («kept_unconverted» .exit)) (now («kept_converted» .exit)) ⌝ }
 {
     let asked = refusals::truncated(
         len,
@@ -132,9 +115,8 @@ pub fn unconverted_counts(
     converted: &[u32],
     counts: &mut [i16],
 ) -> Written
-    ensures { λ r. ⌜ (let o = countsInRoom (length (now (informative .entry))) (length (now (unconverted .entry))) (length (now (converted .entry)))
-        (length (now (counts .entry))) in
-        (says r ≡ o) × (now (counts .exit) ≡ leaves (λ (n : ℕ). asTagCounts (now (unconverted .entry))) o (now (counts .entry)))) ⌝ }
+    ensures { λ r. ⌜ GivesCounts (now (unconverted .entry)) (now (informative .entry)) (now (unconverted .entry)) (now (converted .entry))
+        (now (counts .entry)) r (now (counts .exit)) ⌝ }
 {
     let asked = refusals::counts_in_room(
         informative.len(),
@@ -156,9 +138,8 @@ pub fn converted_counts(
     converted: &[u32],
     counts: &mut [i16],
 ) -> Written
-    ensures { λ r. ⌜ (let o = countsInRoom (length (now (informative .entry))) (length (now (unconverted .entry))) (length (now (converted .entry)))
-        (length (now (counts .entry))) in
-        (says r ≡ o) × (now (counts .exit) ≡ leaves (λ (n : ℕ). asTagCounts (now (converted .entry))) o (now (counts .entry)))) ⌝ }
+    ensures { λ r. ⌜ GivesCounts (now (converted .entry)) (now (informative .entry)) (now (unconverted .entry)) (now (converted .entry))
+        (now (counts .entry)) r (now (counts .exit)) ⌝ }
 {
     let asked = refusals::counts_in_room(
         informative.len(),
@@ -180,10 +161,7 @@ pub fn restore_unconverted_bases(
     pattern: ConversionPattern,
     informative: &[u8],
 ) -> Written
-    ensures { λ r. ⌜ (let o = restorable (length (now («consensus_bases» .entry))) (length (now (informative .entry))) in
-        (says r ≡ o)
-        × (now («consensus_bases» .exit)
-        ≡ leaves (λ (n : ℕ). restored pattern (now (informative .entry)) (now («consensus_bases» .entry))) o (now («consensus_bases» .entry)))) ⌝ }
+    ensures { λ r. ⌜ Restores (now («consensus_bases» .entry)) pattern (now (informative .entry)) r (now («consensus_bases» .exit)) ⌝ }
 {
     let asked = refusals::restorable(consensus_bases.len(), informative.len());
     let Written::Done(_) = asked else {

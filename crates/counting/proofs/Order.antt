@@ -5,7 +5,7 @@ use Prim.Native.Nat.{ℕ, _+_, _≤_, _<_}
 use native.Mathlib.Nat.{ℕ-set}
 use native.Mathlib.Omega.{arith}
 use mathlib.Core.Bool.{Bool}
-use mathlib.Core.List.{List, [], _∷_, List·Permᴰ, List·Permᴰ·nil, List·Permᴰ·cons, List·Permᴰ·swap, List·Permᴰ·trans, Perm}
+use mathlib.Core.List.{List, [], _∷_, List·Permᴰ, List·Permᴰ·nil, List·Permᴰ·cons, List·Permᴰ·swap, List·Permᴰ·trans, Perm, reverse, reverse-perm}
 use mathlib.Core.Logic.{∥∥₁-elim}
 use lib.Dec.{eqb}
 use lib.ListN.{length, getD, length-map}
@@ -54,6 +54,11 @@ order-does-not-matter base p all? row reads reads′ n perm =
         ∥∥₁-elim perm (ℕ-set (howMany base (basesAt all? (informativeAt p row i) i reads))
         (howMany base (basesAt all? (informativeAt p row i) i reads′)))
         (shown-perm base all? (informativeAt p row i) i)
+
+-- there is such an order for every list of reads: from the last to the first
+pub reversed-reads-count-alike : (base : ℕ) (p : ConversionPattern) (all? : Bool) (row : List ℕ) (reads : List Read) (n : ℕ)
+    → countColumn base p all? row (reverse reads) n ≡ countColumn base p all? row reads n
+reversed-reads-count-alike base p all? row reads n = order-does-not-matter base p all? row (reverse reads) reads n (reverse-perm reads)
 
 -- two different bases among the bases that are shown
 two-bases : (a b : ℕ) (bases : List ℕ) → (a ≡ b → ⊥) → howMany a bases + howMany b bases ≤ length bases

@@ -6,10 +6,13 @@ use native.Mathlib.Omega.{arith}
 use mathlib.Core.List.{List, map}
 use lib.Dec.{leb}
 use lib.ListN.{length, getD, set, length-map}
+use borrow.Author.Tests.{le-leb}
 use Rattle.lent.proofs.Filled.{leaves-done, leaves-refused, over-all}
 use Rattle.lent.proofs.InPlace.{changedUpTo, length-changed, changed-more, changed-not-yet, changed-is-map}
 use Rattle.lent.proofs.Tests.{by-test}
 use Rattle.lent.specs.Filled.{leaves}
+use Rattle.lent.specs.declared.Written.{Written}
+use Rattle.evidence.specs.Contracts.{GatesRow}
 use Rattle.evidence.specs.Position.{gated}
 use Rattle.evidence.specs.Row.{gatedRow, rowOf, recordsToGate}
 use Rattle.evidence.specs.declared.MethylationEvidence.{MethylationEvidence}
@@ -38,3 +41,12 @@ unfolding gatedRow rowOf
 row-is-left row = by-test (leb (length row) 16000)
     (λ e. rw e (changed-is-map gated 0 row ∙ sym (leaves-done (λ (n : ℕ). map gated row) (length row) row ∙ over-all (map gated row) row (length-map row gated))))
     (λ e. rw e (sym (leaves-refused (λ (n : ℕ). map gated row) _ row)))
+
+-- what the contract says of a row that the domain allows: each record is gated
+pub short-row-gated : (row : List MethylationEvidence) (r : Written) (row′ : List MethylationEvidence) → length row ≤ 16000
+    → GatesRow row r row′ → row′ ≡ gatedRow row
+unfolding gatedRow rowOf
+short-row-gated row r row′ h p =
+    (rw (le-leb (length row) 16000 h) at (p .1))
+    ∙ leaves-done (λ (n : ℕ). map gated row) (length row) row
+    ∙ over-all (map gated row) row (length-map row gated)

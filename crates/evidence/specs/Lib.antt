@@ -1,2 +1,3 @@
 pub mod Position
 pub mod Row
+pub mod Contracts

@@ -1,13 +1,12 @@
 // The evidence of a position, and a lent row of such records: port step 3, its smallest part.
 //
 // Names are the Rust's. Counting, gating and the rest over columns stand in the crate `annotation`. No function here asks anything of its caller,
-// and each contract is an equation with a definition of specs/.
+// and each public call's contract is one proposition of specs/Contracts.
 ghost use mathlib.Core.Path.{_≡_};
 ghost use Prim.Native.Nat.{_+_};
-ghost use lib.ListN.{length};
 ghost use Rattle.lent.specs.Outcome.{says};
-ghost use Rattle.lent.specs.Filled.{leaves};
-ghost use Rattle.evidence.specs.Position.{capped, fresh, counted, gated};
+ghost use Rattle.evidence.specs.Contracts.{StartsEvidence, CountsBase, GatesPosition, GatesRow};
+ghost use Rattle.evidence.specs.Position.{capped};
 ghost use Rattle.evidence.specs.Row.{gatedRow, rowOf, recordsToGate};
 use lent::Refusal;
 use lent::Written;
@@ -24,7 +23,7 @@ pub struct MethylationEvidence {
 impl MethylationEvidence {
     // A position where nothing was counted yet.
     pub fn new(informative: bool) -> Self
-        ensures { λ r. ⌜ r ≡ fresh informative ⌝ }
+        ensures { λ r. ⌜ StartsEvidence informative r ⌝ }
     {
         MethylationEvidence {
             informative: informative,
@@ -35,7 +34,7 @@ impl MethylationEvidence {
 
     // The evidence with one read's base counted, in any case.
     pub fn counted(self, base: u8, pattern: ConversionPattern) -> Self
-        ensures { λ r. ⌜ r ≡ counted self base pattern ⌝ }
+        ensures { λ r. ⌜ CountsBase self base pattern r ⌝ }
     {
         let bases = pattern.bases();
         let unconverted = self.unconverted;
@@ -59,7 +58,7 @@ impl MethylationEvidence {
 
     // The evidence as it is where the position is informative, and none elsewhere.
     pub fn gated(self) -> Self
-        ensures { λ r. ⌜ r ≡ gated self ⌝ }
+        ensures { λ r. ⌜ GatesPosition self r ⌝ }
     {
         if self.informative {
             return self;
@@ -80,9 +79,7 @@ fn one_more(count: u32) -> u32
 
 // Gates a lent row of evidence records, as `gate_to_informative` gates the columns: 1 above 16,000 records, and else each record gated.
 pub fn gate_row(row: &mut [MethylationEvidence]) -> Written
-    ensures { λ r.
-        ⌜ (says r ≡ rowOf (length (now (row .entry))))
-        × (now (row .exit) ≡ leaves (λ n. gatedRow (now (row .entry))) (rowOf (length (now (row .entry)))) (now (row .entry))) ⌝ }
+    ensures { λ r. ⌜ GatesRow (now (row .entry)) r (now (row .exit)) ⌝ }
 {
     let n = records_to_gate(row.len());
     let mut i = 0;
@@ -92,6 +89,15 @@ pub fn gate_row(row: &mut [MethylationEvidence]) -> Written
         i += 1;
     }
     answer_for_row(row.len())
+}
+
+// Three records, gated through a lent row: a caller of `gate_row` that knows no more of it than its contract.
+fn gated_three(row: [MethylationEvidence; 3]) -> [MethylationEvidence; 3]
+    ensures { λ r. ⌜ r ≡ gatedRow row ⌝ }
+{
+    let mut own = row;
+    gate_row(&mut own);
+    own
 }
 
 // All records of a row that the domain allows, none of a longer one.

@@ -1,3 +1,4 @@
 pub mod Unique
 pub mod Examples
 pub mod Cases
+pub mod Cited

@@ -1,16 +1,14 @@
 // Case of a byte, how a read shows conversions, and the chemistry: port step 1.
 //
-// Names are the Rust's. No function here asks anything of its caller, and each contract is an equation with a definition of specs/.
-ghost use mathlib.Core.Path.{_≡_};
-ghost use Rattle.pattern.specs.Case.{upper, sameInAnyCase};
-ghost use Rattle.pattern.specs.Patterns.{patternOf, basesOf, letterOf, signOf, isEnabled};
+// Names are the Rust's. No function here asks anything of its caller, and each contract is one proposition of specs/Contracts.
+ghost use Rattle.pattern.specs.Contracts.{Uppercases, ComparesInAnyCase, FindsPattern, NamesBases, NamesLetter, NamesSign, TellsEnabled};
 
 // All bits but the one that tells a letter's cases apart.
 const NO_CASE: u8 = 0xDF;
 
 // An ASCII letter in upper case; any other byte as it is.
 pub fn to_ascii_uppercase(b: u8) -> u8
-    ensures { λ r. ⌜ r ≡ upper b ⌝ }
+    ensures { λ r. ⌜ Uppercases b r ⌝ }
 {
     if b < b'a' {
         return b;
@@ -23,7 +21,7 @@ pub fn to_ascii_uppercase(b: u8) -> u8
 
 // The two bytes are the same letter in any case, or the same byte. Where many bytes are held against one letter, each is masked and compared once.
 pub fn eq_ignore_ascii_case(a: u8, b: u8) -> bool
-    ensures { λ r. ⌜ r ≡ sameInAnyCase a b ⌝ }
+    ensures { λ r. ⌜ ComparesInAnyCase a b r ⌝ }
 {
     let capital = b & NO_CASE;
     if capital < b'A' {
@@ -59,7 +57,7 @@ impl ConversionPattern {
 
     // The pattern of a read with the given SAM flags.
     pub fn from_read_flags(read_flags: u16) -> Self
-        ensures { λ r. ⌜ r ≡ patternOf «read_flags» ⌝ }
+        ensures { λ r. ⌜ FindsPattern «read_flags» r ⌝ }
     {
         if read_flags & Self::LAST_SEGMENT == 0 {
             ConversionPattern::CToT
@@ -70,7 +68,7 @@ impl ConversionPattern {
 
     // Reference, unconverted and converted base, in read orientation.
     pub fn bases(self) -> Bases
-        ensures { λ r. ⌜ r ≡ basesOf self ⌝ }
+        ensures { λ r. ⌜ NamesBases self r ⌝ }
     {
         match self {
             ConversionPattern::CToT => Bases {
@@ -88,7 +86,7 @@ impl ConversionPattern {
 
     // The letter that the pattern's MM group counts.
     pub fn letter(self) -> u8
-        ensures { λ r. ⌜ r ≡ letterOf self ⌝ }
+        ensures { λ r. ⌜ NamesLetter self r ⌝ }
     {
         match self {
             ConversionPattern::CToT => b'C',
@@ -98,7 +96,7 @@ impl ConversionPattern {
 
     // The strand sign of the pattern's MM group.
     pub fn sign(self) -> u8
-        ensures { λ r. ⌜ r ≡ signOf self ⌝ }
+        ensures { λ r. ⌜ NamesSign self r ⌝ }
     {
         match self {
             ConversionPattern::CToT => Self::SAME_STRAND,
@@ -117,7 +115,7 @@ pub enum MethylationMode {
 impl MethylationMode {
     // Some chemistry is chosen.
     pub fn is_enabled(self) -> bool
-        ensures { λ r. ⌜ r ≡ isEnabled self ⌝ }
+        ensures { λ r. ⌜ TellsEnabled self r ⌝ }
     {
         match self {
             MethylationMode::Disabled => false,
