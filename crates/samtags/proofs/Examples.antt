@@ -20,7 +20,7 @@ use Rattle.samtags.specs.Edits.{maskTag, dropFromTag, cutTag}
 use Rattle.samtags.specs.Session.{Step, mask, dropCalls, cut, Held, run, answers}
 use Rattle.pattern.specs.declared.ConversionPattern.the-variants.{CToT, GToA}
 use Rattle.pattern.specs.declared.MethylationMode.the-variants.{EmSeq}
-use Rattle.samtags.specs.Building.{Evidence, joinedTag}
+use Rattle.samtags.specs.Building.{Evidence, joinedTag, mlValue}
 use Rattle.lent.proofs.Tests.{by-test}
 use Rattle.samtags.proofs.OneSpelling.{header-back, headerIn}
 
@@ -104,6 +104,11 @@ pub join-example :
     ≡ record { text = ascii "C+m?,0;G-m?,0;"; ml = 170 ∷ 255 ∷ [] }
 unfolding joinedTag
 join-example = refl
+
+-- ML's values: of 1 in 2 reads, of 1 in 1, of 1 in 3 and of 0 in 5
+pub ml-values : mlValue 1 2 ∷ mlValue 1 1 ∷ mlValue 1 3 ∷ mlValue 0 5 ∷ [] ≡ 128 ∷ 255 ∷ 85 ∷ 0 ∷ []
+unfolding mlValue
+ml-values = refl
 
 -- SAMtags' headers: its codes are lower-case letters, or the six upper-case ones of its table, or a number
 pub header-examples :
