@@ -1,7 +1,7 @@
 -- What the promises ask for can be met: each is applied to a worked tag, so that all of its hypotheses hold together.
 -- Assumes nothing.
 use mathlib.Core.Path.{_≡_, refl}
-use Prim.Native.Nat.{ℕ, zero, suc, _+_, _*_, _≤_, _<_}
+use Prim.Native.Nat.{ℕ, zero, suc, _*_, _<_}
 use native.Mathlib.Omega.{arith}
 use mathlib.Core.Bool.{true}
 use mathlib.Core.List.{List, [], _∷_, map}
@@ -13,7 +13,7 @@ use Rattle.pattern.specs.Case.{upper}
 use Rattle.samtags.specs.Bytes.{ascii}
 use Rattle.samtags.specs.Edits.{cutTo, droppingAt, edited, maskedTo}
 use Rattle.samtags.specs.Reading.{lists, readTag}
-use Rattle.samtags.specs.Samtags.{GroupMeans, Names, Spelled, TagMeans, TextMeans, aGroup, isSpelling, kindBefore, meaningOf, noCall, noGroup, ofKind, ordinal}
+use Rattle.samtags.specs.Samtags.{Names, Spelled, TagMeans, TextMeans, aGroup, isSpelling, kindBefore, meaningOf, noCall, noGroup, ofKind, ordinal}
 use Rattle.samtags.specs.Spots.{Call, Listing}
 use Rattle.samtags.specs.Text.{baseOf}
 use Rattle.samtags.proofs.Examples.{at, cs}

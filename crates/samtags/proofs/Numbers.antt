@@ -26,7 +26,7 @@ use Rattle.samtags.specs.Building.{Evidence, columns, builtTag, buildTag
 use Rattle.samtags.specs.Decimal.{isNumber, value}
 use Rattle.samtags.specs.Edits.{Edit, cutTag, cutTo, dropFromTag, droppingAt, edited, inRoom, liesIn, maskTag, maskedTo, sameBytes, windowStart, withStart}
 use Rattle.samtags.specs.Reading.{deniedTo, inDomain, lists, nowhere, read, readEntry, readGroup, readGroups, readSpots, readTag, tallyTag, valuesIf}
-use Rattle.samtags.specs.Session.{Held, Memory, Step, mask, dropCalls, cut, heldIn, heldWith, inOrder, lengthsInBuffers, lengthsInDomain, masked, openSession, stepInMemory, stepped, stored, window}
+use Rattle.samtags.specs.Session.{Held, Memory, Step, mask, dropCalls, cut, heldIn, heldWith, inOrder, lengthsInBuffers, lengthsInDomain, masked, openSession, stepInMemory, stepped, window}
 use Rattle.samtags.specs.Spots.{Group, Spot, tracked}
 use Rattle.samtags.specs.Text.{baseOf, closedBy, endsInQuestion, ledBy, upTo}
 use Rattle.samtags.specs.Writing.{Tag}
