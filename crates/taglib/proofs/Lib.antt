@@ -1,2 +1,11 @@
+pub mod AlignmentCited
+pub mod BuildingCited
 pub mod Chosen
+pub mod DuplexCited
+pub mod EvidenceCited
+pub mod PatternCited
+pub mod ReadingCited
+pub mod RewritingCited
+pub mod SessionCited
+pub mod TranscriptCited
 pub mod Yes
