@@ -18,6 +18,7 @@ pub aql-is-cpg-context-cited : Gives 1 is-cpg-context.ps is-cpg-context.r is-cpg
     TellsCpgInC (a .0 .now) (a .1 .0) (a .1 .1 .0) r)
 aql-is-cpg-context-cited κs a r e p = p
 
-pub aql-fetch-ref-bases-at-positions-cited : Gives 4 fetch-ref-bases-at-positions.ps fetch-ref-bases-at-positions.r fetch-ref-bases-at-positions-reads.Post (λ κs a r e.
+pub aql-fetch-ref-bases-at-positions-cited :
+    Gives 4 fetch-ref-bases-at-positions.ps fetch-ref-bases-at-positions.r fetch-ref-bases-at-positions-reads.Post (λ κs a r e.
     FetchesBasesInC (a .0 .now) (a .1 .0 .now) (a .1 .1 .0 .now) (a .1 .1 .1 .0 .now) r (e .1 .1 .0 .now) (e .1 .1 .1 .0 .now))
 aql-fetch-ref-bases-at-positions-cited κs a r e p = p

@@ -33,7 +33,8 @@ pub aql-evidence-gated-cited : Gives 2 evidence-gated.ps evidence-gated.r eviden
     GatesPositionInC (a .0) (a .1 .0 .now) (a .1 .1 .0 .now) (e .1 .0 .now) (e .1 .1 .0 .now))
 aql-evidence-gated-cited κs a r e p = p
 
-pub aql-annotate-simplex-methylation-cited : Gives 8 annotate-simplex-methylation.ps annotate-simplex-methylation.r annotate-simplex-methylation-reads.Post (λ κs a r e.
+pub aql-annotate-simplex-methylation-cited :
+    Gives 8 annotate-simplex-methylation.ps annotate-simplex-methylation.r annotate-simplex-methylation-reads.Post (λ κs a r e.
     AnnotatesInC (a .0) (a .1 .0 .now) (a .1 .1 .0 .now) (a .1 .1 .1 .0 .now) (a .1 .1 .1 .1 .0) (a .1 .1 .1 .1 .1 .0 .now)
     (a .1 .1 .1 .1 .1 .1 .0) (a .1 .1 .1 .1 .1 .1 .1 .0 .now) (a .1 .1 .1 .1 .1 .1 .1 .1 .0 .now) (a .1 .1 .1 .1 .1 .1 .1 .1 .1 .0 .now)
     (a .1 .1 .1 .1 .1 .1 .1 .1 .1 .1 .0 .now) r (e .1 .1 .1 .1 .1 .1 .1 .0 .now) (e .1 .1 .1 .1 .1 .1 .1 .1 .0 .now)
@@ -60,6 +61,7 @@ pub aql-converted-counts-cited : Gives 5 converted-counts.ps converted-counts.r 
     (e .1 .1 .1 .0 .now) (e .1 .1 .1 .1 .0 .now))
 aql-converted-counts-cited κs a r e p = p
 
-pub aql-restore-unconverted-bases-cited : Gives 3 restore-unconverted-bases.ps restore-unconverted-bases.r restore-unconverted-bases-reads.Post (λ κs a r e.
+pub aql-restore-unconverted-bases-cited :
+    Gives 3 restore-unconverted-bases.ps restore-unconverted-bases.r restore-unconverted-bases-reads.Post (λ κs a r e.
     RestoresInC (a .0 .now) (a .1 .0) (a .1 .1 .0 .now) (a .1 .1 .1 .0 .now) r (e .0 .now) (e .1 .1 .1 .0 .now))
 aql-restore-unconverted-bases-cited κs a r e p = p

@@ -9,7 +9,8 @@ use Rattle.taglib.proofs.rewriting_tags.aql_drop_modifications_at.Reads
 use Rattle.taglib.proofs.rewriting_tags.aql_trim_clipped_modifications.Kinds as trim-clipped-modifications
 use Rattle.taglib.proofs.rewriting_tags.aql_trim_clipped_modifications.Reads as trim-clipped-modifications-reads
 
-pub aql-drop-masked-modifications-cited : Gives 8 drop-masked-modifications.ps drop-masked-modifications.r drop-masked-modifications-reads.Post (λ κs a r e.
+pub aql-drop-masked-modifications-cited :
+    Gives 8 drop-masked-modifications.ps drop-masked-modifications.r drop-masked-modifications-reads.Post (λ κs a r e.
     MasksTagInC (a .0 .now) (a .1 .0 .now) (a .1 .1 .0 .now) (a .1 .1 .1 .0 .now) (a .1 .1 .1 .1 .0) (a .1 .1 .1 .1 .1 .0 .now)
     (a .1 .1 .1 .1 .1 .1 .0 .now) (a .1 .1 .1 .1 .1 .1 .1 .0 .now) (a .1 .1 .1 .1 .1 .1 .1 .1 .0 .now) r (e .1 .1 .1 .1 .1 .0 .now)
     (e .1 .1 .1 .1 .1 .1 .0 .now) (e .1 .1 .1 .1 .1 .1 .1 .0 .now) (e .1 .1 .1 .1 .1 .1 .1 .1 .0 .now))
@@ -21,7 +22,8 @@ pub aql-drop-modifications-at-cited : Gives 8 drop-modifications-at.ps drop-modi
     (e .1 .1 .1 .1 .1 .1 .0 .now) (e .1 .1 .1 .1 .1 .1 .1 .0 .now) (e .1 .1 .1 .1 .1 .1 .1 .1 .0 .now))
 aql-drop-modifications-at-cited κs a r e p = p
 
-pub aql-trim-clipped-modifications-cited : Gives 8 trim-clipped-modifications.ps trim-clipped-modifications.r trim-clipped-modifications-reads.Post (λ κs a r e.
+pub aql-trim-clipped-modifications-cited :
+    Gives 8 trim-clipped-modifications.ps trim-clipped-modifications.r trim-clipped-modifications-reads.Post (λ κs a r e.
     CutsTagInC (a .0 .now) (a .1 .0 .now) (a .1 .1 .0) (a .1 .1 .1 .0) (a .1 .1 .1 .1 .0 .now) (a .1 .1 .1 .1 .1 .0 .now)
     (a .1 .1 .1 .1 .1 .1 .0) (a .1 .1 .1 .1 .1 .1 .1 .0 .now) (a .1 .1 .1 .1 .1 .1 .1 .1 .0 .now) (a .1 .1 .1 .1 .1 .1 .1 .1 .1 .0 .now)
     (a .1 .1 .1 .1 .1 .1 .1 .1 .1 .1 .0 .now) r (e .1 .1 .1 .1 .1 .1 .1 .0 .now) (e .1 .1 .1 .1 .1 .1 .1 .1 .0 .now)

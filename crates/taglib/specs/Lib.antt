@@ -6,6 +6,7 @@ pub mod Evidences
 pub mod PatternContracts
 pub mod Patterns
 pub mod ReadingContracts
+pub mod Returns
 pub mod RewritingContracts
 pub mod SessionContracts
 pub mod TranscriptContracts

@@ -20,8 +20,8 @@ abbrev pub OpensInC : List ℕ → List ℕ → List ℕ → ℕ → List ℕ �
 OpensInC seq mm ml hasMl lengths groups calls r groups′ calls′ =
     TellsCallsInC (openSession (yes hasMl) (sessionIn seq mm ml lengths)) groups calls r groups′ calls′
 
--- `aql_session_mask`, `aql_session_drop_calls` and `aql_session_cut`: the step that is asked for; the rows, whether there is an ML, and the array, as lent;
--- what is returned; rows and array as left (a drop only reads SEQ's row, which is left as lent)
+-- `aql_session_mask`, `aql_session_drop_calls` and `aql_session_cut`: the step that is asked for; the rows, whether there is an ML, and the array, as
+-- lent; what is returned; rows and array as left (a drop only reads SEQ's row, which is left as lent)
 abbrev pub StepsInC : Step → List ℕ → List ℕ → List ℕ → ℕ → List ℕ → ℕ → List ℕ → List ℕ → List ℕ → List ℕ → Type 0
 StepsInC t seq mm ml hasMl lengths r seq′ mm′ ml′ lengths′ =
     let o = stepInMemory (yes hasMl) t (sessionIn seq mm ml lengths) in
