@@ -27,7 +27,8 @@ extern "C" {
 #endif
 
 /* The numbers. With any but 0 everything that was lent is as it was. Where several apply, the order is 13, 1, 2, 21, 11, 3, 4; then the text from
- * the left, 5 at a header and at each entry 6, 7, 8, 10; after the last group 9 or 20; last 12. */
+ * the left, 5 at a header and at each entry 6, 7, 8, 10; after the last group 9 or 20; last 12. The comment of a call that answers one of them ends with
+ * all that it can answer: no other, and each for some input. */
 enum {
     AQL_DONE = 0,
     AQL_TOO_LONG = 1,            /* an input is longer than the domain allows */
@@ -85,7 +86,8 @@ uint8_t aql_pattern_letter(uint16_t read_flags);
 /* Returns the strand sign of the pattern's MM group: '+' for C to T, '-' for G to A. */
 uint8_t aql_pattern_sign(uint16_t read_flags);
 
-/* Whether a chemistry is chosen. Returns 0 and writes 1 or 0 to *enabled; 13 for an unknown mode. */
+/* Whether a chemistry is chosen. Returns 0 and writes 1 or 0 to *enabled; 13 for an unknown mode.
+ * Answers 0, 13. */
 uint8_t aql_mode_is_enabled(uint8_t mode, uint8_t *enabled);
 
 /* --- Alignment --------------------------------------------------------------------------------------------------------------------- */
@@ -93,7 +95,8 @@ uint8_t aql_mode_is_enabled(uint8_t mode, uint8_t *enabled);
 /* The reference place of each base of a read, from its CIGAR (BAM operation words: length times 16 plus kind) and its start; for a reverse read from
  * the last operation and from the alignment's end backward. A base that has none (I, S) gets AQL_MISSING_PLACE.
  * Returns 0 and writes the number of bases to *n, that many places to the front of positions; 13 for an unknown kind or a start outside 0 to
- * 2,147,483,647; 1 where there are more than 65,535 words or 16,000 bases; 12 where positions has no room. */
+ * 2,147,483,647; 1 where there are more than 65,535 words or 16,000 bases; 12 where positions has no room.
+ * Answers 0, 1, 12, 13. */
 uint8_t aql_query_to_ref_positions(const uint32_t *cigar, size_t cigar_len, int64_t alignment_start, uint8_t is_reverse,
                                    int64_t *positions, size_t positions_room, size_t *n);
 
@@ -103,7 +106,8 @@ uint8_t aql_is_cpg_context(const uint8_t *ref_seq, size_t ref_seq_len, size_t po
 
 /* The reference's bases at a row of places; 0 where the place is negative or off the reference.
  * Returns 0 and writes the number of places to *n, that many bytes to the front of bases; 12 where bases has no room. Places and reference may be of any
- * number. */
+ * number.
+ * Answers 0, 12. */
 uint8_t aql_fetch_ref_bases_at_positions(const int64_t *ref_positions, size_t ref_positions_len, const uint8_t *reference, size_t reference_len,
                                          uint8_t *bases, size_t bases_room, size_t *n);
 
@@ -125,7 +129,8 @@ void aql_evidence_gated(uint8_t informative, uint32_t *unconverted, uint32_t *co
  * the converted base there; with count_all_positions at every position, aligned or not. The reads stand one after the other in read_bases, each with
  * as many bases as its entry of read_lengths says; read_aligned has a byte for each base.
  * Returns 0 and writes the consensus' length to *n, that many entries to each column; 1 where the consensus or the reads are too long or too many; 2
- * where lengths, bases and aligned bytes disagree; 12 where a column has no room. */
+ * where lengths, bases and aligned bytes disagree; 12 where a column has no room.
+ * Answers 0, 1, 2, 12. */
 uint8_t aql_annotate_simplex_methylation(size_t consensus_len, const uint32_t *read_lengths, size_t read_lengths_len,
                                          const uint8_t *read_bases, size_t read_bases_len, const uint8_t *ref_bases, size_t ref_bases_len,
                                          uint16_t read_flags, const uint8_t *read_aligned, size_t read_aligned_len, uint8_t count_all_positions,
@@ -133,27 +138,32 @@ uint8_t aql_annotate_simplex_methylation(size_t consensus_len, const uint32_t *r
                                          uint32_t *converted, size_t converted_room, size_t *n);
 
 /* Writes 0 to both counts of each position that is not informative.
- * Returns 0 and writes the number of positions to *n; 1 where there are more than 16,000; 2 where the columns disagree in length. */
+ * Returns 0 and writes the number of positions to *n; 1 where there are more than 16,000; 2 where the columns disagree in length.
+ * Answers 0, 1, 2. */
 uint8_t aql_gate_to_informative(const uint8_t *informative, size_t informative_len, uint32_t *unconverted, size_t unconverted_len,
                                 uint32_t *converted, size_t converted_len, size_t *n);
 
 /* Copies the first len positions, or all where there are fewer, to three other columns, a yes as 1.
- * Returns 0 and writes their number to *n; 1 and 2 as above; 12 where a column has no room. */
+ * Returns 0 and writes their number to *n; 1 and 2 as above; 12 where a column has no room.
+ * Answers 0, 1, 2, 12. */
 uint8_t aql_truncate(size_t len, const uint8_t *informative, size_t informative_len, const uint32_t *unconverted, size_t unconverted_len,
                      const uint32_t *converted, size_t converted_len, uint8_t *kept_informative, size_t kept_informative_room,
                      uint32_t *kept_unconverted, size_t kept_unconverted_room, uint32_t *kept_converted, size_t kept_converted_room, size_t *n);
 
 /* The unconverted counts as the cu tag holds them, 32,767 for any count above it.
- * Returns 0 and writes the number of positions to *n, that many entries to the front of counts; 1 and 2 as above; 12 where counts has no room. */
+ * Returns 0 and writes the number of positions to *n, that many entries to the front of counts; 1 and 2 as above; 12 where counts has no room.
+ * Answers 0, 1, 2, 12. */
 uint8_t aql_unconverted_counts(const uint8_t *informative, size_t informative_len, const uint32_t *unconverted, size_t unconverted_len,
                                const uint32_t *converted, size_t converted_len, int16_t *counts, size_t counts_room, size_t *n);
 
-/* The converted counts as the ct tag holds them; otherwise as above. */
+/* The converted counts as the ct tag holds them; otherwise as above.
+ * Answers 0, 1, 2, 12. */
 uint8_t aql_converted_counts(const uint8_t *informative, size_t informative_len, const uint32_t *unconverted, size_t unconverted_len,
                              const uint32_t *converted, size_t converted_len, int16_t *counts, size_t counts_room, size_t *n);
 
 /* Writes C over T and t, or G over A and a by the pattern, at the informative positions of the consensus.
- * Returns 0 and writes the number of bases to *n; 1 where there are more than 16,000; 2 where bases and column disagree in length. */
+ * Returns 0 and writes the number of bases to *n; 1 where there are more than 16,000; 2 where bases and column disagree in length.
+ * Answers 0, 1, 2. */
 uint8_t aql_restore_unconverted_bases(uint8_t *consensus_bases, size_t consensus_bases_len, uint16_t read_flags,
                                       const uint8_t *informative, size_t informative_len, size_t *n);
 
@@ -161,13 +171,15 @@ uint8_t aql_restore_unconverted_bases(uint8_t *consensus_bases, size_t consensus
 
 /* Builds a strand's MM text and ML from a consensus and its evidence.
  * Returns 0 and writes the lengths of text and ML to *mm_len and *ml_len; 13 for an unknown mode; 1 where an input is too long; 2 where consensus and
- * columns disagree in length; 20 where there is no call or no chemistry; 12 where mm or ml has no room. */
+ * columns disagree in length; 20 where there is no call or no chemistry; 12 where mm or ml has no room.
+ * Answers 0, 1, 2, 12, 13, 20. */
 uint8_t aql_build_mm_ml_tags(const uint8_t *consensus_bases, size_t consensus_bases_len, const uint8_t *informative, size_t informative_len,
                              const uint32_t *unconverted, size_t unconverted_len, const uint32_t *converted, size_t converted_len,
                              uint16_t read_flags, uint8_t mode, uint8_t *mm, size_t mm_room, uint8_t *ml, size_t ml_room,
                              size_t *mm_len, size_t *ml_len);
 
-/* Builds a strand's MM text alone, as the am and bm tags hold it. Returns as above. */
+/* Builds a strand's MM text alone, as the am and bm tags hold it. Returns as above.
+ * Answers 0, 1, 2, 12, 13, 20. */
 uint8_t aql_build_mm_tag_no_ml(const uint8_t *consensus_bases, size_t consensus_bases_len, const uint8_t *informative, size_t informative_len,
                                const uint32_t *unconverted, size_t unconverted_len, const uint32_t *converted, size_t converted_len,
                                uint16_t read_flags, uint8_t mode, uint8_t *mm, size_t mm_room, size_t *mm_len);
@@ -192,7 +204,8 @@ enum {
  * au, at and bm, bu, bt), of a record with one strand or two. With one strand the second's inputs are not looked at and its parts are empty.
  * Returns 0 and writes the length of each part to its entry of lengths; where there is no call, or no chemistry, SEQ and counts are written and the texts
  * are empty. 13 for an unknown mode or strands that are not 1 or 2; 1 where an input is too long; 2 where the consensus and a strand's columns disagree in
- * length; 12 where a row has no room. */
+ * length; 12 where a row has no room.
+ * Answers 0, 1, 2, 12, 13. */
 uint8_t aql_duplex_methylation_tags(const uint8_t *bases, size_t bases_len, size_t strands, uint8_t mode,
                                     uint16_t first_flags, const uint8_t *first_informative, size_t first_informative_len,
                                     const uint32_t *first_unconverted, size_t first_unconverted_len,
@@ -211,19 +224,22 @@ uint8_t aql_duplex_methylation_tags(const uint8_t *bases, size_t bases_len, size
 /* --- Reading ----------------------------------------------------------------------------------------------------------------------- */
 
 /* Reads a tag without a list. Returns 0 and writes how many groups and calls it has to *groups and *calls; 1 where an input is too long; 3 to 9 as the
- * text and ML are. */
+ * text and ML are.
+ * Answers 0, 1, 3 to 9. */
 uint8_t aql_check_tag(const uint8_t *seq, size_t seq_len, const uint8_t *mm, size_t mm_len, const uint8_t *ml, size_t ml_len, uint8_t has_ml,
                       size_t *groups, size_t *calls);
 
 /* The calls of a tag in order, into three columns: the group's number from 1, the place in SEQ, and where the call's values start in ML (0 without).
  * Returns 0 and writes how many groups and calls there are to *groups and *calls; the calls fill the front of each column. 1 and 3 to 9 as above; 12
- * where a column has no room. */
+ * where a column has no room.
+ * Answers 0, 1, 3 to 9, 12. */
 uint8_t aql_read_calls(const uint8_t *seq, size_t seq_len, const uint8_t *mm, size_t mm_len, const uint8_t *ml, size_t ml_len, uint8_t has_ml,
                        uint32_t *call_groups, size_t call_groups_room, uint32_t *call_places, size_t call_places_room,
                        uint32_t *call_starts, size_t call_starts_room, size_t *groups, size_t *calls);
 
 /* How many values of a tag's ML are above (from 128 on) and how many below. It always takes an ML.
- * Returns 0 and writes both numbers, which add up to ml_len; 1 and 3 to 9 as above. */
+ * Returns 0 and writes both numbers, which add up to ml_len; 1 and 3 to 9 as above.
+ * Answers 0, 1, 3 to 9. */
 uint8_t aql_tally(const uint8_t *seq, size_t seq_len, const uint8_t *mm, size_t mm_len, const uint8_t *ml, size_t ml_len,
                   size_t *above, size_t *below);
 
@@ -231,7 +247,8 @@ uint8_t aql_tally(const uint8_t *seq, size_t seq_len, const uint8_t *mm, size_t 
 
 /* SEQ was masked: the calls go whose base `after` no longer holds, and such a base counts in no later skip.
  * Returns 0 and writes the lengths of the edited text and ML to *mm_out_len and *ml_out_len, which are never more than came in; 1 where an input is too
- * long; 2 where before and after disagree in length; 3 to 9 as the reader; 12 where mm_out or ml_out has no room. Without ML *ml_out_len is 0. */
+ * long; 2 where before and after disagree in length; 3 to 9 as the reader; 12 where mm_out or ml_out has no room. Without ML *ml_out_len is 0.
+ * Answers 0, 1 to 9, 12. */
 uint8_t aql_drop_masked_modifications(const uint8_t *before, size_t before_len, const uint8_t *after, size_t after_len,
                                       const uint8_t *mm, size_t mm_len, const uint8_t *ml, size_t ml_len, uint8_t has_ml,
                                       uint8_t *mm_out, size_t mm_out_room, uint8_t *ml_out, size_t ml_out_room,
@@ -239,7 +256,8 @@ uint8_t aql_drop_masked_modifications(const uint8_t *before, size_t before_len, 
 
 /* The calls at the places go, and SEQ stays, so that their bases still count in later skips. Places may come in any order and more than once; those past
  * SEQ's end do nothing.
- * Returns as above, without 2; 10 at a call that would go from a group whose header does not end in '?'. */
+ * Returns as above, without 2; 10 at a call that would go from a group whose header does not end in '?'.
+ * Answers 0, 1, 3 to 10, 12. */
 uint8_t aql_drop_modifications_at(const uint8_t *seq, size_t seq_len, const uint32_t *places, size_t places_len,
                                   const uint8_t *mm, size_t mm_len, const uint8_t *ml, size_t ml_len, uint8_t has_ml,
                                   uint8_t *mm_out, size_t mm_out_room, uint8_t *ml_out, size_t ml_out_room,
@@ -248,7 +266,8 @@ uint8_t aql_drop_modifications_at(const uint8_t *seq, size_t seq_len, const uint
 /* SEQ was cut: `after` is the part of `before` that begins at start, in which a base may be masked by N or n. start_known 0 says that the start is not
  * known; where both are equally long it is 0, whatever is given.
  * Returns as the mask does, without 2; 21 where after equals before (the tag is then not read); 11 where after is no window of before, or its start is
- * unknown. */
+ * unknown.
+ * Answers 0, 1, 3 to 9, 11, 12, 21. */
 uint8_t aql_trim_clipped_modifications(const uint8_t *before, size_t before_len, const uint8_t *after, size_t after_len,
                                        uint8_t start_known, size_t start,
                                        const uint8_t *mm, size_t mm_len, const uint8_t *ml, size_t ml_len, uint8_t has_ml,
@@ -267,21 +286,25 @@ enum {
 };
 
 /* Opens a session. Returns 0 and writes how many groups and calls its tag has; 1 where a length is over the domain, 2 where one is over its row, then 3 to
- * 9 as the reader. */
+ * 9 as the reader.
+ * Answers 0, 1 to 9. */
 uint8_t aql_session_open(const uint8_t *seq, size_t seq_room, const uint8_t *mm, size_t mm_room, const uint8_t *ml, size_t ml_room, uint8_t has_ml,
                          const size_t lengths[AQL_SESSION_LENGTHS], size_t *groups, size_t *calls);
 
 /* Masks: writes N to the listed places of SEQ, in any order and more than once, those past its end ignored; the calls on these bases go, and they count in no
- * later skip. Returns 0 and writes the new lengths; 1 to 9 as opening. */
+ * later skip. Returns 0 and writes the new lengths; 1 to 9 as opening.
+ * Answers 0, 1 to 9. */
 uint8_t aql_session_mask(uint8_t *seq, size_t seq_room, uint8_t *mm, size_t mm_room, uint8_t *ml, size_t ml_room, uint8_t has_ml,
                          size_t lengths[AQL_SESSION_LENGTHS], const uint32_t *places, size_t places_len);
 
-/* Drops the calls at the listed places; SEQ stays. Returns as the mask does, and 10 at a call whose group's header does not end in '?'. */
+/* Drops the calls at the listed places; SEQ stays. Returns as the mask does, and 10 at a call whose group's header does not end in '?'.
+ * Answers 0, 1 to 10. */
 uint8_t aql_session_drop_calls(const uint8_t *seq, size_t seq_room, uint8_t *mm, size_t mm_room, uint8_t *ml, size_t ml_room, uint8_t has_ml,
                                size_t lengths[AQL_SESSION_LENGTHS], const uint32_t *places, size_t places_len);
 
 /* Cuts bases off the front and off the back. Returns as the mask does; 21 where both are 0 (the tag is then not read), 11 where they are more than SEQ
- * holds. */
+ * holds.
+ * Answers 0, 1 to 9, 11, 21. */
 uint8_t aql_session_cut(uint8_t *seq, size_t seq_room, uint8_t *mm, size_t mm_room, uint8_t *ml, size_t ml_room, uint8_t has_ml,
                         size_t lengths[AQL_SESSION_LENGTHS], uint32_t front, uint32_t back);
 

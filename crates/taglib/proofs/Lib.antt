@@ -1,2 +1,14 @@
+pub mod AlignmentCited
+pub mod BuildingCited
 pub mod Chosen
+pub mod DuplexCited
+pub mod EvidenceCited
+pub mod Numbers
+pub mod PatternCited
+pub mod ReadingCited
+pub mod Returned
+pub mod RewritingCited
+pub mod SessionCited
+pub mod TranscriptCited
+pub mod Unique
 pub mod Yes

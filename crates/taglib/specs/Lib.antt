@@ -1,2 +1,12 @@
-pub mod Patterns
+pub mod AlignmentContracts
+pub mod BuildingContracts
+pub mod DuplexContracts
+pub mod EvidenceContracts
 pub mod Evidences
+pub mod PatternContracts
+pub mod Patterns
+pub mod ReadingContracts
+pub mod Returns
+pub mod RewritingContracts
+pub mod SessionContracts
+pub mod TranscriptContracts

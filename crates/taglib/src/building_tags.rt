@@ -1,14 +1,5 @@
 // MM and ML from a consensus and its evidence, for one strand.
-ghost use mathlib.Core.Path.{_≡_};
-ghost use mathlib.Core.Bool.{true, false};
-ghost use lib.ListN.{length};
-ghost use Rattle.lent.specs.Outcome.{numberOf, andThen};
-ghost use Rattle.lent.specs.Filled.{leaves};
-ghost use Rattle.pattern.specs.Patterns.{patternOf};
-ghost use Rattle.samtags.specs.Writing.{Tag};
-ghost use Rattle.samtags.specs.Building.{columns, buildTag};
-ghost use Rattle.telling.specs.Told.{told};
-ghost use Rattle.modes.specs.Modes.{modeOf};
+ghost use Rattle.taglib.specs.BuildingContracts.{BuildsInC, BuildsTextInC};
 use modes::Mode;
 use pattern::ConversionPattern;
 
@@ -26,14 +17,9 @@ pub extern "C" fn aql_build_mm_ml_tags(
     mm_len: &mut usize,
     ml_len: &mut usize,
 ) -> u8
-    ensures { λ r. ⌜ (let o = andThen (modeOf mode) (λ m. buildTag true m (patternOf «read_flags»)
-        (columns (now (informative .entry)) (now (unconverted .entry)) (now (converted .entry))) (now («consensus_bases» .entry))
-        (length (now (mm .entry))) (length (now (ml .entry)))) in
-        (r ≡ numberOf o)
-        × (now («mm_len» .exit) ≡ told (λ (t : Tag). length (t .text)) o (now («mm_len» .entry)))
-        × (now («ml_len» .exit) ≡ told (λ (t : Tag). length (t .ml)) o (now («ml_len» .entry)))
-        × (now (mm .exit) ≡ leaves (λ (t : Tag). t .text) o (now (mm .entry)))
-        × (now (ml .exit) ≡ leaves (λ (t : Tag). t .ml) o (now (ml .entry)))) ⌝ }
+    ensures { λ r. ⌜ BuildsInC (now («consensus_bases» .entry)) (now (informative .entry)) (now (unconverted .entry)) (now (converted .entry))
+        «read_flags» mode (now (mm .entry)) (now (ml .entry)) (now («mm_len» .entry)) (now («ml_len» .entry))
+        r (now (mm .exit)) (now (ml .exit)) (now («mm_len» .exit)) (now («ml_len» .exit)) ⌝ }
 {
     match modes::mode_of(mode) {
         Mode::Known(chosen) => {
@@ -65,12 +51,8 @@ pub extern "C" fn aql_build_mm_tag_no_ml(
     mm: &mut [u8],
     mm_len: &mut usize,
 ) -> u8
-    ensures { λ r. ⌜ (let o = andThen (modeOf mode) (λ m. buildTag false m (patternOf «read_flags»)
-        (columns (now (informative .entry)) (now (unconverted .entry)) (now (converted .entry))) (now («consensus_bases» .entry))
-        (length (now (mm .entry))) 0) in
-        (r ≡ numberOf o)
-        × (now («mm_len» .exit) ≡ told (λ (t : Tag). length (t .text)) o (now («mm_len» .entry)))
-        × (now (mm .exit) ≡ leaves (λ (t : Tag). t .text) o (now (mm .entry)))) ⌝ }
+    ensures { λ r. ⌜ BuildsTextInC (now («consensus_bases» .entry)) (now (informative .entry)) (now (unconverted .entry)) (now (converted .entry))
+        «read_flags» mode (now (mm .entry)) (now («mm_len» .entry)) r (now (mm .exit)) (now («mm_len» .exit)) ⌝ }
 {
     match modes::mode_of(mode) {
         Mode::Known(chosen) => {

@@ -1,13 +1,6 @@
 // SEQ, tags and counts of a record with one strand or two.
-ghost use mathlib.Core.Path.{_≡_};
-ghost use lib.ListN.{length};
-ghost use Rattle.lent.specs.Outcome.{numberOf, andThen};
-ghost use Rattle.lent.specs.Filled.{leaves};
-ghost use Rattle.pattern.specs.Patterns.{patternOf};
-ghost use Rattle.duplex.specs.Duplex.{Duplexed, strand, rows, lengthsOf, duplexTags};
-ghost use Rattle.telling.specs.Told.{told};
-ghost use Rattle.modes.specs.Modes.{modeOf};
-ghost use Rattle.telling_strands.specs.Strands.{partRow};
+ghost use Rattle.duplex.specs.Contracts.{elevenRows};
+ghost use Rattle.taglib.specs.DuplexContracts.{DuplexesInC, strandInC};
 use modes::Mode;
 use pattern::ConversionPattern;
 
@@ -39,28 +32,18 @@ pub extern "C" fn aql_duplex_methylation_tags(
     second_converted_counts: &mut [i16],
     lengths: &mut [usize; 11],
 ) -> u8
-    ensures { λ r. ⌜ (let a = strand (patternOf «first_flags») (now («first_informative» .entry))
-        (now («first_unconverted» .entry)) (now («first_converted» .entry)) in
-        let b = strand (patternOf «second_flags») (now («second_informative» .entry))
-        (now («second_unconverted» .entry)) (now («second_converted» .entry)) in
-        let o = andThen (modeOf mode) (λ m. duplexTags strands m (now (bases .entry)) a b
-        (rows (length (now (seq .entry))) (length (now (mm .entry))) (length (now (ml .entry)))
-        (length (now (unconverted .entry))) (length (now (converted .entry)))
-        (length (now («first_mm» .entry))) (length (now («first_unconverted_counts» .entry))) (length (now («first_converted_counts» .entry)))
-        (length (now («second_mm» .entry))) (length (now («second_unconverted_counts» .entry))) (length (now («second_converted_counts» .entry))))) in
-        (r ≡ numberOf o)
-        × (now (lengths .exit) ≡ told (λ (d : Duplexed). partRow (lengthsOf d)) o (now (lengths .entry)))
-        × (now (seq .exit) ≡ leaves (λ (d : Duplexed). d .seq) o (now (seq .entry)))
-        × (now (mm .exit) ≡ leaves (λ (d : Duplexed). d .joined .text) o (now (mm .entry)))
-        × (now (ml .exit) ≡ leaves (λ (d : Duplexed). d .joined .ml) o (now (ml .entry)))
-        × (now (unconverted .exit) ≡ leaves (λ (d : Duplexed). d .unconverted) o (now (unconverted .entry)))
-        × (now (converted .exit) ≡ leaves (λ (d : Duplexed). d .converted) o (now (converted .entry)))
-        × (now («first_mm» .exit) ≡ leaves (λ (d : Duplexed). d .first .text) o (now («first_mm» .entry)))
-        × (now («first_unconverted_counts» .exit) ≡ leaves (λ (d : Duplexed). d .first .unconverted) o (now («first_unconverted_counts» .entry)))
-        × (now («first_converted_counts» .exit) ≡ leaves (λ (d : Duplexed). d .first .converted) o (now («first_converted_counts» .entry)))
-        × (now («second_mm» .exit) ≡ leaves (λ (d : Duplexed). d .second .text) o (now («second_mm» .entry)))
-        × (now («second_unconverted_counts» .exit) ≡ leaves (λ (d : Duplexed). d .second .unconverted) o (now («second_unconverted_counts» .entry)))
-        × (now («second_converted_counts» .exit) ≡ leaves (λ (d : Duplexed). d .second .converted) o (now («second_converted_counts» .entry)))) ⌝ }
+    ensures { λ r. ⌜ DuplexesInC (now (bases .entry)) strands mode
+        (strandInC «first_flags» (now («first_informative» .entry)) (now («first_unconverted» .entry)) (now («first_converted» .entry)))
+        (strandInC «second_flags» (now («second_informative» .entry)) (now («second_unconverted» .entry)) (now («second_converted» .entry)))
+        (elevenRows (now (seq .entry)) (now (mm .entry)) (now (ml .entry)) (now (unconverted .entry)) (now (converted .entry))
+        (now («first_mm» .entry)) (now («first_unconverted_counts» .entry)) (now («first_converted_counts» .entry))
+        (now («second_mm» .entry)) (now («second_unconverted_counts» .entry)) (now («second_converted_counts» .entry)))
+        (now (lengths .entry))
+        r
+        (elevenRows (now (seq .exit)) (now (mm .exit)) (now (ml .exit)) (now (unconverted .exit)) (now (converted .exit))
+        (now («first_mm» .exit)) (now («first_unconverted_counts» .exit)) (now («first_converted_counts» .exit))
+        (now («second_mm» .exit)) (now («second_unconverted_counts» .exit)) (now («second_converted_counts» .exit)))
+        (now (lengths .exit)) ⌝ }
 {
     match modes::mode_of(mode) {
         Mode::Known(chosen) => {

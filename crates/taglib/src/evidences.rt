@@ -1,17 +1,5 @@
 // The evidence of one position, and that of a consensus in three columns.
-ghost use mathlib.Core.Path.{_≡_};
-ghost use mathlib.Core.Bool.{false};
-ghost use Prim.Native.Nat.{ℕ};
-ghost use lib.ListN.{length, take};
-ghost use Rattle.lent.specs.Outcome.{numberOf};
-ghost use Rattle.lent.specs.Filled.{leaves};
-ghost use Rattle.pattern.specs.Patterns.{patternOf};
-ghost use Rattle.evidence.specs.Position.{fresh, counted, gated};
-ghost use Rattle.counting.specs.Reads.{readsOf, unconvertedColumn, convertedColumn};
-ghost use Rattle.columns.specs.Columns.{yesByte, informativeColumn, gatedCounts, asYes, asTagCounts, restored};
-ghost use Rattle.refusals.specs.Refusals.{annotated, columnsOf, restorable, truncated, countsInRoom};
-ghost use Rattle.telling.specs.Told.{told, yes};
-ghost use Rattle.taglib.specs.Evidences.{position};
+ghost use Rattle.taglib.specs.EvidenceContracts.{StartsEvidenceInC, CountsBaseInC, GatesPositionInC, AnnotatesInC, GatesInC, TruncatesInC, GivesCountsInC, RestoresInC};
 use evidence::MethylationEvidence;
 use pattern::ConversionPattern;
 
@@ -22,10 +10,7 @@ pub extern "C" fn aql_evidence_new(
     unconverted: &mut u32,
     converted: &mut u32,
 ) -> u8
-    ensures { λ r. ⌜ (let e = fresh (yes informative) in
-        (r ≡ yesByte (e .informative))
-        × (now (unconverted .exit) ≡ e .unconverted)
-        × (now (converted .exit) ≡ e .converted)) ⌝ }
+    ensures { λ r. ⌜ StartsEvidenceInC informative r (now (unconverted .exit)) (now (converted .exit)) ⌝ }
 {
     let e = MethylationEvidence::new(informative != 0);
     *unconverted = e.unconverted;
@@ -41,8 +26,8 @@ pub extern "C" fn aql_evidence_counted(
     unconverted: &mut u32,
     converted: &mut u32,
 )
-    ensures { λ _. ⌜ (let e = counted (position false (now (unconverted .entry)) (now (converted .entry))) base (patternOf «read_flags») in
-        (now (unconverted .exit) ≡ e .unconverted) × (now (converted .exit) ≡ e .converted)) ⌝ }
+    ensures { λ _. ⌜ CountsBaseInC base «read_flags» (now (unconverted .entry)) (now (converted .entry))
+        (now (unconverted .exit)) (now (converted .exit)) ⌝ }
 {
     let before = MethylationEvidence {
         informative: false,
@@ -57,8 +42,8 @@ pub extern "C" fn aql_evidence_counted(
 // Writes 0 to both counts of a position that is not informative.
 #[no_mangle]
 pub extern "C" fn aql_evidence_gated(informative: u8, unconverted: &mut u32, converted: &mut u32)
-    ensures { λ _. ⌜ (let e = gated (position (yes informative) (now (unconverted .entry)) (now (converted .entry))) in
-        (now (unconverted .exit) ≡ e .unconverted) × (now (converted .exit) ≡ e .converted)) ⌝ }
+    ensures { λ _. ⌜ GatesPositionInC informative (now (unconverted .entry)) (now (converted .entry))
+        (now (unconverted .exit)) (now (converted .exit)) ⌝ }
 {
     let before = MethylationEvidence {
         informative: informative != 0,
@@ -85,17 +70,10 @@ pub extern "C" fn aql_annotate_simplex_methylation(
     converted: &mut [u32],
     n: &mut usize,
 ) -> u8
-    ensures { λ r. ⌜ (let o = annotated «consensus_len» (now («read_lengths» .entry)) (now («read_bases» .entry)) (now («read_aligned» .entry))
-        (length (now (informative .entry))) (length (now (unconverted .entry))) (length (now (converted .entry))) in
-        let row = now («ref_bases» .entry) in
-        let reads = readsOf (now («read_lengths» .entry)) (now («read_bases» .entry)) (now («read_aligned» .entry)) in
-        let p = patternOf «read_flags» in
-        let all = yes «count_all_positions» in
-        (r ≡ numberOf o)
-        × (now (n .exit) ≡ told (λ (m : ℕ). m) o (now (n .entry)))
-        × (now (informative .exit) ≡ leaves (informativeColumn p row) o (now (informative .entry)))
-        × (now (unconverted .exit) ≡ leaves (unconvertedColumn p all row reads) o (now (unconverted .entry)))
-        × (now (converted .exit) ≡ leaves (convertedColumn p all row reads) o (now (converted .entry)))) ⌝ }
+    ensures { λ r. ⌜ AnnotatesInC «consensus_len» (now («read_lengths» .entry)) (now («read_bases» .entry)) (now («ref_bases» .entry)) «read_flags»
+        (now («read_aligned» .entry)) «count_all_positions»
+        (now (informative .entry)) (now (unconverted .entry)) (now (converted .entry)) (now (n .entry))
+        r (now (informative .exit)) (now (unconverted .exit)) (now (converted .exit)) (now (n .exit)) ⌝ }
 {
     let answer = annotation::annotate_simplex_methylation(
         consensus_len,
@@ -120,11 +98,8 @@ pub extern "C" fn aql_gate_to_informative(
     converted: &mut [u32],
     n: &mut usize,
 ) -> u8
-    ensures { λ r. ⌜ (let o = columnsOf (length (now (informative .entry))) (length (now (unconverted .entry))) (length (now (converted .entry))) in
-        (r ≡ numberOf o)
-        × (now (n .exit) ≡ told (λ (m : ℕ). m) o (now (n .entry)))
-        × (now (unconverted .exit) ≡ leaves (λ (m : ℕ). gatedCounts (now (informative .entry)) (now (unconverted .entry))) o (now (unconverted .entry)))
-        × (now (converted .exit) ≡ leaves (λ (m : ℕ). gatedCounts (now (informative .entry)) (now (converted .entry))) o (now (converted .entry)))) ⌝ }
+    ensures { λ r. ⌜ GatesInC (now (informative .entry)) (now (unconverted .entry)) (now (converted .entry)) (now (n .entry))
+        r (now (unconverted .exit)) (now (converted .exit)) (now (n .exit)) ⌝ }
 {
     let answer = annotation::gate_to_informative(informative, unconverted, converted);
     telling::written(answer, n)
@@ -142,13 +117,9 @@ pub extern "C" fn aql_truncate(
     kept_converted: &mut [u32],
     n: &mut usize,
 ) -> u8
-    ensures { λ r. ⌜ (let o = truncated len (length (now (informative .entry))) (length (now (unconverted .entry))) (length (now (converted .entry)))
-        (length (now («kept_informative» .entry))) (length (now («kept_unconverted» .entry))) (length (now («kept_converted» .entry))) in
-        (r ≡ numberOf o)
-        × (now (n .exit) ≡ told (λ (m : ℕ). m) o (now (n .entry)))
-        × (now («kept_informative» .exit) ≡ leaves (λ (k : ℕ). asYes (take k (now (informative .entry)))) o (now («kept_informative» .entry)))
-        × (now («kept_unconverted» .exit) ≡ leaves (λ (k : ℕ). take k (now (unconverted .entry))) o (now («kept_unconverted» .entry)))
-        × (now («kept_converted» .exit) ≡ leaves (λ (k : ℕ). take k (now (converted .entry))) o (now («kept_converted» .entry)))) ⌝ }
+    ensures { λ r. ⌜ TruncatesInC len (now (informative .entry)) (now (unconverted .entry)) (now (converted .entry))
+        (now («kept_informative» .entry)) (now («kept_unconverted» .entry)) (now («kept_converted» .entry)) (now (n .entry))
+        r (now («kept_informative» .exit)) (now («kept_unconverted» .exit)) (now («kept_converted» .exit)) (now (n .exit)) ⌝ }
 {
     let answer = annotation::truncate(
         len,
@@ -171,11 +142,8 @@ pub extern "C" fn aql_unconverted_counts(
     counts: &mut [i16],
     n: &mut usize,
 ) -> u8
-    ensures { λ r. ⌜ (let o = countsInRoom (length (now (informative .entry))) (length (now (unconverted .entry))) (length (now (converted .entry)))
-        (length (now (counts .entry))) in
-        (r ≡ numberOf o)
-        × (now (n .exit) ≡ told (λ (m : ℕ). m) o (now (n .entry)))
-        × (now (counts .exit) ≡ leaves (λ (m : ℕ). asTagCounts (now (unconverted .entry))) o (now (counts .entry)))) ⌝ }
+    ensures { λ r. ⌜ GivesCountsInC (now (unconverted .entry)) (now (informative .entry)) (now (unconverted .entry)) (now (converted .entry))
+        (now (counts .entry)) (now (n .entry)) r (now (counts .exit)) (now (n .exit)) ⌝ }
 {
     let answer = annotation::unconverted_counts(informative, unconverted, converted, counts);
     telling::written(answer, n)
@@ -190,11 +158,8 @@ pub extern "C" fn aql_converted_counts(
     counts: &mut [i16],
     n: &mut usize,
 ) -> u8
-    ensures { λ r. ⌜ (let o = countsInRoom (length (now (informative .entry))) (length (now (unconverted .entry))) (length (now (converted .entry)))
-        (length (now (counts .entry))) in
-        (r ≡ numberOf o)
-        × (now (n .exit) ≡ told (λ (m : ℕ). m) o (now (n .entry)))
-        × (now (counts .exit) ≡ leaves (λ (m : ℕ). asTagCounts (now (converted .entry))) o (now (counts .entry)))) ⌝ }
+    ensures { λ r. ⌜ GivesCountsInC (now (converted .entry)) (now (informative .entry)) (now (unconverted .entry)) (now (converted .entry))
+        (now (counts .entry)) (now (n .entry)) r (now (counts .exit)) (now (n .exit)) ⌝ }
 {
     let answer = annotation::converted_counts(informative, unconverted, converted, counts);
     telling::written(answer, n)
@@ -208,12 +173,8 @@ pub extern "C" fn aql_restore_unconverted_bases(
     informative: &[u8],
     n: &mut usize,
 ) -> u8
-    ensures { λ r. ⌜ (let o = restorable (length (now («consensus_bases» .entry))) (length (now (informative .entry))) in
-        (r ≡ numberOf o)
-        × (now (n .exit) ≡ told (λ (m : ℕ). m) o (now (n .entry)))
-        × (now («consensus_bases» .exit)
-        ≡ leaves (λ (m : ℕ). restored (patternOf «read_flags») (now (informative .entry)) (now («consensus_bases» .entry))) o
-        (now («consensus_bases» .entry)))) ⌝ }
+    ensures { λ r. ⌜ RestoresInC (now («consensus_bases» .entry)) «read_flags» (now (informative .entry)) (now (n .entry))
+        r (now («consensus_bases» .exit)) (now (n .exit)) ⌝ }
 {
     let pattern = ConversionPattern::from_read_flags(read_flags);
     let answer = annotation::restore_unconverted_bases(consensus_bases, pattern, informative);

@@ -1,19 +1,12 @@
 // Bytes, patterns and the chemistry.
-ghost use mathlib.Core.Path.{_≡_};
-ghost use Rattle.lent.specs.Outcome.{numberOf, onDone};
-ghost use Rattle.pattern.specs.Case.{upper, sameInAnyCase};
-ghost use Rattle.pattern.specs.Patterns.{patternOf, basesOf, letterOf, signOf, isEnabled};
-ghost use Rattle.columns.specs.Columns.{yesByte};
-ghost use Rattle.telling.specs.Told.{told};
-ghost use Rattle.modes.specs.Modes.{modeOf};
-ghost use Rattle.taglib.specs.Patterns.{patternNumber};
+ghost use Rattle.taglib.specs.PatternContracts.{UppercasesInC, ComparesInC, FindsPatternInC, NamesBasesInC, NamesLetterInC, NamesSignInC, TellsEnabledInC};
 use modes::Mode;
 use pattern::ConversionPattern;
 
 // The byte in upper case.
 #[no_mangle]
 pub extern "C" fn aql_to_ascii_uppercase(b: u8) -> u8
-    ensures { λ r. ⌜ r ≡ upper b ⌝ }
+    ensures { λ r. ⌜ UppercasesInC b r ⌝ }
 {
     pattern::to_ascii_uppercase(b)
 }
@@ -21,7 +14,7 @@ pub extern "C" fn aql_to_ascii_uppercase(b: u8) -> u8
 // 1 where the two bytes are the same in upper case, else 0.
 #[no_mangle]
 pub extern "C" fn aql_eq_ignore_ascii_case(a: u8, b: u8) -> u8
-    ensures { λ r. ⌜ r ≡ yesByte (sameInAnyCase a b) ⌝ }
+    ensures { λ r. ⌜ ComparesInC a b r ⌝ }
 {
     pattern::eq_ignore_ascii_case(a, b) as u8
 }
@@ -29,7 +22,7 @@ pub extern "C" fn aql_eq_ignore_ascii_case(a: u8, b: u8) -> u8
 // 0 for C to T, 1 for G to A.
 #[no_mangle]
 pub extern "C" fn aql_pattern_from_read_flags(read_flags: u16) -> u8
-    ensures { λ r. ⌜ r ≡ patternNumber (patternOf «read_flags») ⌝ }
+    ensures { λ r. ⌜ FindsPatternInC «read_flags» r ⌝ }
 {
     match ConversionPattern::from_read_flags(read_flags) {
         ConversionPattern::CToT => 0,
@@ -45,10 +38,7 @@ pub extern "C" fn aql_pattern_bases(
     unconverted: &mut u8,
     converted: &mut u8,
 )
-    ensures { λ _. ⌜ (let b = basesOf (patternOf «read_flags») in
-        (now (reference .exit) ≡ b .reference)
-        × (now (unconverted .exit) ≡ b .unconverted)
-        × (now (converted .exit) ≡ b .converted)) ⌝ }
+    ensures { λ _. ⌜ NamesBasesInC «read_flags» (now (reference .exit)) (now (unconverted .exit)) (now (converted .exit)) ⌝ }
 {
     let bases = ConversionPattern::from_read_flags(read_flags).bases();
     *reference = bases.reference;
@@ -59,7 +49,7 @@ pub extern "C" fn aql_pattern_bases(
 // The letter of the pattern's MM group.
 #[no_mangle]
 pub extern "C" fn aql_pattern_letter(read_flags: u16) -> u8
-    ensures { λ r. ⌜ r ≡ letterOf (patternOf «read_flags») ⌝ }
+    ensures { λ r. ⌜ NamesLetterInC «read_flags» r ⌝ }
 {
     ConversionPattern::from_read_flags(read_flags).letter()
 }
@@ -67,7 +57,7 @@ pub extern "C" fn aql_pattern_letter(read_flags: u16) -> u8
 // The strand sign of the pattern's MM group.
 #[no_mangle]
 pub extern "C" fn aql_pattern_sign(read_flags: u16) -> u8
-    ensures { λ r. ⌜ r ≡ signOf (patternOf «read_flags») ⌝ }
+    ensures { λ r. ⌜ NamesSignInC «read_flags» r ⌝ }
 {
     ConversionPattern::from_read_flags(read_flags).sign()
 }
@@ -75,8 +65,7 @@ pub extern "C" fn aql_pattern_sign(read_flags: u16) -> u8
 // Whether a chemistry is chosen; 13 for an unknown mode.
 #[no_mangle]
 pub extern "C" fn aql_mode_is_enabled(mode: u8, enabled: &mut u8) -> u8
-    ensures { λ r. ⌜ (let o = onDone isEnabled (modeOf mode) in
-        (r ≡ numberOf o) × (now (enabled .exit) ≡ told yesByte o (now (enabled .entry)))) ⌝ }
+    ensures { λ r. ⌜ TellsEnabledInC mode (now (enabled .entry)) r (now (enabled .exit)) ⌝ }
 {
     match modes::mode_of(mode) {
         Mode::Known(chosen) => {

@@ -1,13 +1,5 @@
 // Reading a tag: how many groups and calls it has, the calls themselves, the tally.
-ghost use mathlib.Core.Path.{_≡_};
-ghost use mathlib.Core.List.{List};
-ghost use lib.ListN.{length};
-ghost use Rattle.lent.specs.Outcome.{numberOf};
-ghost use Rattle.lent.specs.Filled.{leaves};
-ghost use Rattle.samtags.specs.Spots.{Listing};
-ghost use Rattle.samtags.specs.Reading.{callList, readTag, Tally, tallyTag};
-ghost use Rattle.reading.specs.Calls.{groupColumn, listedCalls, placeColumn, startColumn};
-ghost use Rattle.telling.specs.Told.{told, yes};
+ghost use Rattle.taglib.specs.ReadingContracts.{ChecksTagInC, ReadsCallsInC, TalliesInC};
 
 // Reads a tag without a list: how many groups and calls it has.
 #[no_mangle]
@@ -19,10 +11,8 @@ pub extern "C" fn aql_check_tag(
     groups: &mut usize,
     calls: &mut usize,
 ) -> u8
-    ensures { λ r. ⌜ (let o = readTag (yes «has_ml») (now (seq .entry)) (now (mm .entry)) (now (ml .entry)) in
-        (r ≡ numberOf o)
-        × (now (groups .exit) ≡ told (λ (ls : List Listing). length ls) o (now (groups .entry)))
-        × (now (calls .exit) ≡ told (λ (ls : List Listing). length (callList ls)) o (now (calls .entry)))) ⌝ }
+    ensures { λ r. ⌜ ChecksTagInC (now (seq .entry)) (now (mm .entry)) (now (ml .entry)) «has_ml» (now (groups .entry)) (now (calls .entry))
+        r (now (groups .exit)) (now (calls .exit)) ⌝ }
 {
     let answer = reading::check_tag(seq, mm, ml, has_ml != 0);
     telling::readings::read(answer, groups, calls)
@@ -41,14 +31,9 @@ pub extern "C" fn aql_read_calls(
     groups: &mut usize,
     calls: &mut usize,
 ) -> u8
-    ensures { λ r. ⌜ (let o = listedCalls (yes «has_ml») (now (seq .entry)) (now (mm .entry)) (now (ml .entry))
-        (length (now («call_groups» .entry))) (length (now («call_places» .entry))) (length (now («call_starts» .entry))) in
-        (r ≡ numberOf o)
-        × (now (groups .exit) ≡ told (λ (ls : List Listing). length ls) o (now (groups .entry)))
-        × (now (calls .exit) ≡ told (λ (ls : List Listing). length (callList ls)) o (now (calls .entry)))
-        × (now («call_groups» .exit) ≡ leaves groupColumn o (now («call_groups» .entry)))
-        × (now («call_places» .exit) ≡ leaves placeColumn o (now («call_places» .entry)))
-        × (now («call_starts» .exit) ≡ leaves startColumn o (now («call_starts» .entry)))) ⌝ }
+    ensures { λ r. ⌜ ReadsCallsInC (now (seq .entry)) (now (mm .entry)) (now (ml .entry)) «has_ml»
+        (now («call_groups» .entry)) (now («call_places» .entry)) (now («call_starts» .entry)) (now (groups .entry)) (now (calls .entry))
+        r (now («call_groups» .exit)) (now («call_places» .exit)) (now («call_starts» .exit)) (now (groups .exit)) (now (calls .exit)) ⌝ }
 {
     let answer = reading::read_calls(
         seq,
@@ -71,10 +56,8 @@ pub extern "C" fn aql_tally(
     above: &mut usize,
     below: &mut usize,
 ) -> u8
-    ensures { λ r. ⌜ (let o = tallyTag (now (seq .entry)) (now (mm .entry)) (now (ml .entry)) in
-        (r ≡ numberOf o)
-        × (now (above .exit) ≡ told (λ (t : Tally). t .above) o (now (above .entry)))
-        × (now (below .exit) ≡ told (λ (t : Tally). t .below) o (now (below .entry)))) ⌝ }
+    ensures { λ r. ⌜ TalliesInC (now (seq .entry)) (now (mm .entry)) (now (ml .entry)) (now (above .entry)) (now (below .entry))
+        r (now (above .exit)) (now (below .exit)) ⌝ }
 {
     let answer = reading::tally(seq, mm, ml);
     telling::readings::counted(answer, above, below)

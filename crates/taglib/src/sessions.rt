@@ -1,14 +1,6 @@
 // The edit session: SEQ, MM and ML in three rows of the caller's, edited where they stand, with an array of how much of each row it holds.
-ghost use mathlib.Core.Path.{_≡_};
-ghost use mathlib.Core.List.{List};
-ghost use lib.ListN.{length};
-ghost use Rattle.lent.specs.Outcome.{numberOf};
-ghost use Rattle.samtags.specs.Spots.{Listing};
-ghost use Rattle.samtags.specs.Reading.{callList};
-ghost use Rattle.samtags.specs.Session.{Memory, cut, dropCalls, mask, openSession, stepInMemory};
-ghost use Rattle.stepping.specs.Steps.{memory};
-ghost use Rattle.telling.specs.Told.{told, yes};
-ghost use Rattle.telling_steps.specs.Lengths.{lengthRow, lengthsIn};
+ghost use Rattle.samtags.specs.Session.{cut, dropCalls, mask};
+ghost use Rattle.taglib.specs.SessionContracts.{OpensInC, StepsInC};
 
 // Opens a session: how many groups and calls its tag has. Nothing of it is written.
 #[no_mangle]
@@ -21,11 +13,8 @@ pub extern "C" fn aql_session_open(
     groups: &mut usize,
     calls: &mut usize,
 ) -> u8
-    ensures { λ r. ⌜ (let o = openSession (yes «has_ml»)
-        (memory (now (seq .entry)) (now (mm .entry)) (now (ml .entry)) (lengthsIn (now (lengths .entry)))) in
-        (r ≡ numberOf o)
-        × (now (groups .exit) ≡ told (λ (ls : List Listing). length ls) o (now (groups .entry)))
-        × (now (calls .exit) ≡ told (λ (ls : List Listing). length (callList ls)) o (now (calls .entry)))) ⌝ }
+    ensures { λ r. ⌜ OpensInC (now (seq .entry)) (now (mm .entry)) (now (ml .entry)) «has_ml» (now (lengths .entry))
+        (now (groups .entry)) (now (calls .entry)) r (now (groups .exit)) (now (calls .exit)) ⌝ }
 {
     let held = telling_steps::lengths_in(lengths);
     let answer = session::open(seq, mm, ml, has_ml != 0, held);
@@ -42,13 +31,8 @@ pub extern "C" fn aql_session_mask(
     lengths: &mut [usize; 3],
     places: &[u32],
 ) -> u8
-    ensures { λ r. ⌜ (let o = stepInMemory (yes «has_ml») (mask (now (places .entry)))
-        (memory (now (seq .entry)) (now (mm .entry)) (now (ml .entry)) (lengthsIn (now (lengths .entry)))) in
-        (r ≡ numberOf o)
-        × (now (lengths .exit) ≡ told (λ (m : Memory). lengthRow (m .lengths)) o (now (lengths .entry)))
-        × (now (seq .exit) ≡ told (λ (m : Memory). m .seq) o (now (seq .entry)))
-        × (now (mm .exit) ≡ told (λ (m : Memory). m .text) o (now (mm .entry)))
-        × (now (ml .exit) ≡ told (λ (m : Memory). m .ml) o (now (ml .entry)))) ⌝ }
+    ensures { λ r. ⌜ StepsInC (mask (now (places .entry))) (now (seq .entry)) (now (mm .entry)) (now (ml .entry)) «has_ml» (now (lengths .entry))
+        r (now (seq .exit)) (now (mm .exit)) (now (ml .exit)) (now (lengths .exit)) ⌝ }
 {
     let held = telling_steps::lengths_in(lengths);
     let answer = session::mask(seq, mm, ml, has_ml != 0, held, places);
@@ -65,12 +49,8 @@ pub extern "C" fn aql_session_drop_calls(
     lengths: &mut [usize; 3],
     places: &[u32],
 ) -> u8
-    ensures { λ r. ⌜ (let o = stepInMemory (yes «has_ml») (dropCalls (now (places .entry)))
-        (memory (now (seq .entry)) (now (mm .entry)) (now (ml .entry)) (lengthsIn (now (lengths .entry)))) in
-        (r ≡ numberOf o)
-        × (now (lengths .exit) ≡ told (λ (m : Memory). lengthRow (m .lengths)) o (now (lengths .entry)))
-        × (now (mm .exit) ≡ told (λ (m : Memory). m .text) o (now (mm .entry)))
-        × (now (ml .exit) ≡ told (λ (m : Memory). m .ml) o (now (ml .entry)))) ⌝ }
+    ensures { λ r. ⌜ StepsInC (dropCalls (now (places .entry))) (now (seq .entry)) (now (mm .entry)) (now (ml .entry)) «has_ml» (now (lengths .entry))
+        r (now (seq .entry)) (now (mm .exit)) (now (ml .exit)) (now (lengths .exit)) ⌝ }
 {
     let held = telling_steps::lengths_in(lengths);
     let answer = session::drop_calls(seq, mm, ml, has_ml != 0, held, places);
@@ -88,13 +68,8 @@ pub extern "C" fn aql_session_cut(
     front: u32,
     back: u32,
 ) -> u8
-    ensures { λ r. ⌜ (let o = stepInMemory (yes «has_ml») (cut front back)
-        (memory (now (seq .entry)) (now (mm .entry)) (now (ml .entry)) (lengthsIn (now (lengths .entry)))) in
-        (r ≡ numberOf o)
-        × (now (lengths .exit) ≡ told (λ (m : Memory). lengthRow (m .lengths)) o (now (lengths .entry)))
-        × (now (seq .exit) ≡ told (λ (m : Memory). m .seq) o (now (seq .entry)))
-        × (now (mm .exit) ≡ told (λ (m : Memory). m .text) o (now (mm .entry)))
-        × (now (ml .exit) ≡ told (λ (m : Memory). m .ml) o (now (ml .entry)))) ⌝ }
+    ensures { λ r. ⌜ StepsInC (cut front back) (now (seq .entry)) (now (mm .entry)) (now (ml .entry)) «has_ml» (now (lengths .entry))
+        r (now (seq .exit)) (now (mm .exit)) (now (ml .exit)) (now (lengths .exit)) ⌝ }
 {
     let held = telling_steps::lengths_in(lengths);
     let answer = session::cut(seq, mm, ml, has_ml != 0, held, front, back);

@@ -1,8 +1,5 @@
 // The program `tagedit` as a function.
-ghost use mathlib.Core.Path.{_≡_};
-ghost use lib.ListN.{length};
-ghost use Rattle.lent.specs.Filled.{over};
-ghost use Rattle.transcript.specs.Transcript.{transcriptOf};
+ghost use Rattle.taglib.specs.TranscriptContracts.{TranscribesInC};
 
 // What `tagedit` prints for a whole input, at the front of `out`; the answer is its length. The other rows are to work in.
 #[no_mangle]
@@ -13,8 +10,7 @@ pub extern "C" fn aql_transcript(
     ml: &mut [u8; 32768],
     out: &mut [u8; 81925],
 ) -> usize
-    ensures { λ r. ⌜ (r ≡ length (transcriptOf (now (input .entry))))
-        × (now (out .exit) ≡ over (transcriptOf (now (input .entry))) (now (out .entry))) ⌝ }
+    ensures { λ r. ⌜ TranscribesInC (now (input .entry)) (now (out .entry)) r (now (out .exit)) ⌝ }
 {
     transcript::transcript(input, seq, mm, ml, out)
 }

@@ -32,9 +32,8 @@ returns c =
     let called = c .before .before .before .before .before .before in
     let held = called .before .before .before in
     let a = held .before .before .before .before .before .before .args in
-    let h = step-handed (yes (a .has-ml)) (dropCalls (a .places .now)) (a .seq .now) (a .mm .now) (a .ml .now) (a .lengths .now)
-    (held .lengths-in .ensures) (called .drop-calls .ensures) (c .stepped .ensures) in
-    (h .0, h .1, h .3, h .4)
+    step-handed (yes (a .has-ml)) (dropCalls (a .places .now)) (a .seq .now) (a .mm .now) (a .ml .now) (a .lengths .now)
+    (held .lengths-in .ensures) (called .drop-calls .ensures) (c .stepped .ensures)
 
 pub aql-session-drop-calls-spec : {M : Type 1} → statement M
 aql-session-drop-calls-spec =

@@ -1,0 +1,77 @@
+-- What an export returns is the number of what its call comes to, so that the numbers of the call are those of the export.
+-- Assumes nothing.
+use mathlib.Core.Path.{_≡_, _∙_, ap, refl, subst, sym}
+use Prim.Native.Nat.{ℕ}
+use mathlib.Core.Bool.{true, false}
+use mathlib.Core.List.{List, _∷_}
+use lib.Dec.{eqb}
+use lib.ListN.{length}
+use Rattle.lent.specs.Answers.{Answers, refusesOnly}
+use Rattle.lent.specs.Lists.{among, every}
+use Rattle.lent.specs.Outcome.{Outcome, refused, done, numberOf, onDone, says}
+use Rattle.lent.specs.declared.Written.{Written}
+use Rattle.lent.specs.declared.Written.the-variants as written
+use Rattle.lent.proofs.Answers.{answers}
+use Rattle.lent.proofs.Tests.{by-test}
+use Rattle.modes.specs.Modes.{modeOf}
+use Rattle.taglib.specs.Returns.{Returns}
+use Rattle.samtags.proofs.Text.{among-every}
+
+module _ {A : Type 0} where
+  -- from the numbers of the outcome, however they are known
+  returned : (ns : List ℕ) (o : Outcome A) {r : ℕ} → r ≡ numberOf o → Answers ns o → Returns ns o r
+  returned ns o e h = record {
+    number-among = ap (among (0 ∷ ns)) e ∙ h .number-among;
+    done-is-zero = λ d. e ∙ h .done-is-zero d;
+    zero-is-done = λ z. h .zero-is-done (sym e ∙ z);
+  }
+
+  pub returned-only : (ns : List ℕ) (o : Outcome A) {r : ℕ} → among ns 0 ≡ false → r ≡ numberOf o → refusesOnly ns o ≡ true → Returns ns o r
+  returned-only ns o z e k = returned ns o e (answers ns o z k)
+
+  -- a larger set
+  pub only-more : (ns ms : List ℕ) (o : Outcome A) → every (among ms) ns ≡ true → refusesOnly ns o ≡ true → refusesOnly ms o ≡ true
+  only-more ns ms (refused r) h k = among-every (among ms) ns (r .0) h k
+  only-more ns ms (done a) h k = refl
+
+-- an unknown chemistry is refused with 13
+pub mode-only : (ns : List ℕ) (n : ℕ) → among ns 13 ≡ true → refusesOnly ns (modeOf n) ≡ true
+mode-only ns n thirteen =
+    by-test (eqb n 0) (λ e. rw e refl) (λ e. rw e
+    (by-test (eqb n 1) (λ f. rw f refl) (λ f. rw f
+    (by-test (eqb n 2) (λ g. rw g refl) (λ g. rw g thirteen)))))
+
+-- ---- from what is known of a call's answers
+
+-- the answer for each outcome
+abbrev writtenOf : Outcome ℕ → Written
+writtenOf (refused r) = written.Refused r
+writtenOf (done n) = written.Done n
+
+says-written : (o : Outcome ℕ) → says (writtenOf o) ≡ o
+says-written (refused r) = refl
+says-written (done n) = refl
+
+written-answers : (ns : List ℕ) (o : Outcome ℕ) → ((w : Written) → says w ≡ o → Answers ns (says w)) → Answers ns o
+written-answers ns o h = subst (Answers ns) (says-written o) (h (writtenOf o) (says-written o))
+
+on-done-answers : {A : Type 0} (ns : List ℕ) (f : A → ℕ) (o : Outcome A) → Answers ns (onDone f o) → Answers ns o
+on-done-answers ns f (refused r) h = record {
+  number-among = h .number-among;
+  done-is-zero = h .done-is-zero;
+  zero-is-done = h .zero-is-done;
+}
+on-done-answers ns f (done a) h = record {
+  number-among = h .number-among;
+  done-is-zero = h .done-is-zero;
+  zero-is-done = h .zero-is-done;
+}
+
+-- of a call that answers how many entries it wrote
+pub returned-written : (ns : List ℕ) (o : Outcome ℕ) {r : ℕ} → r ≡ numberOf o → ((w : Written) → says w ≡ o → Answers ns (says w)) → Returns ns o r
+returned-written ns o e h = returned ns o e (written-answers ns o h)
+
+-- and whose definition gives the entries themselves
+pub returned-filled : {A : Type 0} (ns : List ℕ) (o : Outcome (List A)) {r : ℕ} → r ≡ numberOf o
+    → ((w : Written) → says w ≡ onDone length o → Answers ns (says w)) → Returns ns o r
+returned-filled ns o e h = returned ns o e (on-done-answers ns length o (written-answers ns (onDone length o) h))
