@@ -10,12 +10,11 @@ import re
 
 ROOT = os.path.normpath(os.path.join(os.path.dirname(os.path.abspath(__file__)), ".."))
 WORD = r"«[^»]*»|[^\s(){}.;,@\"«»]+"
-TOKEN = re.compile(r"""(?P<text>"(?:\\.|[^"\\])*")|(?P<name>(?:%s)(?:\.(?:%s))*)|(?<=[\s)])\.(?P<field>%s)|(?P<mark>[(){}.;,@])""" % (WORD, WORD, WORD))
+TOKEN = re.compile(r"""(?P<text>"(?:\\.|[^"\\])*")|(?P<name>(?:%s)(?:\.(?:%s))*)|(?<=[\s)])\.(?P<field>%s)|(?P<mark>[(){}.;,@])""" % ((WORD,) * 3))
 COMMENT = re.compile(r"(?<!\S)--.*")
 MARKS = ("unfoldable", "abbrev", "axiom", "pub")
-RESERVED = set(
-    "data record deriving module where use mod pub package using open as unfoldable abbrev axiom unfold unfolding elim let in do λ ∀ Type → ← = : | ↦ [ ] _".split()
-)
+RESERVED = set("data record deriving module where use mod pub package using open as unfoldable abbrev axiom unfold unfolding elim let in do".split())
+RESERVED |= set("λ ∀ Type → ← = : | ↦ [ ] _".split())
 OPENING, CLOSING = {"(": ")", "{": "}"}, (")", "}")
 
 
@@ -23,7 +22,7 @@ OPENING, CLOSING = {"(": ")", "{": "}"}, (")", "}")
 class Item:
     """A definition. `first` and `last` are its lines, from its comment's first on, counted from 1; `typed` is the last line of its type. `statement` are the
     words of its type, `clauses` those of each clause, field or constructor; `also` are the names that come with it, of constructors and variants;
-    `enclosing` are the `module _` lines around it."""
+    `enclosing` are the `module _` lines around it; `public` says that other files may name it."""
 
     path: str
     name: str
@@ -35,6 +34,7 @@ class Item:
     clauses: list
     also: tuple = ()
     enclosing: tuple = ()
+    public: bool = True
 
 
 def item_text(item):
@@ -151,6 +151,9 @@ def read_block(source, lines, first, last, indent, enclosing):
             source.use(" ".join(words))
         elif words[0] in ("mod", "infix", "infixl", "infixr", "open") or words[:2] == ["pub", "mod"]:
             pass
+        elif "mutual" in words[:2]:
+            finish()
+            read_block(source, lines, at + 1, end, indent_of(lines[at + 1]), enclosing)
         elif words[0] == "module":
             finish()
             head = next(n for n in range(at, end) if lines[n].rstrip().endswith("where"))
@@ -164,7 +167,7 @@ def read_block(source, lines, first, last, indent, enclosing):
             finish()
             kind, name, statement, clauses, also = declared
             start = at if comment is None else comment
-            item = Item(source.path, name, kind, start + 1, end, end, statement, clauses, also, enclosing)
+            item = Item(source.path, name, kind, start + 1, end, end, statement, clauses, also, enclosing, "pub" in words[:3])
         elif item:
             item.last = end
             if words[0] != "unfolding":
@@ -253,7 +256,7 @@ def read_rt(path):
             text = "\n".join(re.sub(r"//.*", "", one) for one in lines[at:end])
             if "ensures" in text:
                 name = "%s.%s" % (inside, found[2]) if inside and found[1] else found[2]
-                source.items["fn " + name] = Item(path, name, "contract", above(lines, at) + 1, end, end, [text], [])
+                source.items["fn " + name] = Item(path, name, "contract", above(lines, at) + 1, end, end, [text], [], public="pub " in line)
     return source
 
 
@@ -290,7 +293,7 @@ def rt_file(crate, modules):
 
 def declared_type(crate, path):
     """The struct or enum that a path below `declared` names."""
-    source = rt_file(crate, path[:-1])
+    source = rt_file(crate, path[:-1]) if path else None
     return read_rt(source).items.get(path[-1]) if source else None
 
 
@@ -421,7 +424,7 @@ class Names:
                 at = after
                 continue
             if one == "λ":
-                end = until(tokens, at + 1, ("",), dot=True)
+                end = until(tokens, at + 1, (".",))
                 self.pattern(tokens[at + 1 : end], bound)
                 at = end + 1
                 continue
@@ -434,23 +437,17 @@ class Names:
                 continue
             if one == "in" and waiting:
                 bound.update(waiting.pop())
-            elif one == "↦":
-                pass
             elif one not in (",", ";", ".", "@") and one not in CLOSING:
                 self.take(one, bound)
             at += 1
 
     def fields(self, tokens, bound):
         """The parts of a record literal or type, or an implicit argument by name."""
-        part = []
         for piece in split_at(tokens, ";"):
-            if len(piece) > 1 and piece[1] in ("=", ":"):
-                self.walk(piece[2:], set(bound))
-                if piece[1] == ":":
-                    bound.add(piece[0])
-            else:
-                self.walk(piece, set(bound))
-        return part
+            named = len(piece) > 1 and piece[1] in ("=", ":")
+            self.walk(piece[2:] if named else piece, set(bound))
+            if named and piece[1] == ":":
+                bound.add(piece[0])
 
     def clause(self, tokens, bound, own):
         """A clause: what its left side binds holds on its right side."""
@@ -499,11 +496,11 @@ def group(tokens, at):
     return tokens[at + 1 :], end
 
 
-def until(tokens, at, wanted, dot=False):
-    """The first of the wanted tokens outside brackets, or a lone dot."""
+def until(tokens, at, wanted):
+    """Where the first of the wanted tokens stands outside brackets."""
     depth = 0
     while at < len(tokens):
-        if not depth and (tokens[at] in wanted or dot and tokens[at] == "."):
+        if not depth and tokens[at] in wanted:
             return at
         depth += (tokens[at] in OPENING) - (tokens[at] in CLOSING)
         at += 1
@@ -511,6 +508,7 @@ def until(tokens, at, wanted, dot=False):
 
 
 def split_at(tokens, mark):
+    """The pieces between the marks that stand outside brackets."""
     pieces, depth = [[]], 0
     for one in tokens:
         depth += (one in OPENING) - (one in CLOSING)
@@ -602,9 +600,13 @@ def statement_of(item):
     return dataclasses.replace(item, last=item.typed, clauses=[])
 
 
+class Lost(Exception):
+    """A name of one of the repository's modules that is not found there."""
+
+
 def rests_on(starts):
     """The definitions that the statements of `starts` rest on, the statements among them, by file in reading order; the kit's names with their modules; and
-    the words that no file explains."""
+    the words that no file brings in, which are the prelude's."""
     uses, kit, unknown = {}, set(), set()
     todo = [statement_of(item) for item in starts]
     while todo:
@@ -614,6 +616,9 @@ def rests_on(starts):
         found, words = names_of(item)
         uses[item] = [statement_of(one) if is_theorem(one) else one for one in found if isinstance(one, Item)] + list(item.enclosing)
         kit.update(one[1:] for one in found if not isinstance(one, Item))
+        for module, name in kit:
+            if (crate := re.match(r"Rattle·(\w+)", module)) and crate[1] in crates():
+                raise Lost("%s: %s names %s.%s, which is not found" % (item.path, item.name, module, name))
         unknown |= words
         todo += uses[item]
     return ordered(uses), sorted(kit), sorted(unknown)
@@ -663,7 +668,7 @@ def lines_of(items):
 
 
 def find(start):
-    """The items that FILE:NAME, CRATE:NAME or NAME stands for; FILE and NAME may have '*'."""
+    """The items that FILE:NAME, CRATE:NAME or NAME stands for; FILE and NAME may have '*', which finds public ones alone."""
     where, _, name = start.rpartition(":")
     pattern = re.compile("[^ ]*".join(map(re.escape, name.split("*"))) + "$")
     if where.endswith((".antt", ".rt")):
@@ -674,5 +679,5 @@ def find(start):
     found = []
     for path in files:
         source = read_rt(path) if path.endswith(".rt") else read_antt(path)
-        found += [item for item in dict.fromkeys(source.items.values()) if pattern.match(item.name)]
+        found += [item for item in dict.fromkeys(source.items.values()) if pattern.match(item.name) and (item.public or "*" not in name)]
     return found
