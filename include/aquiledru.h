@@ -3,12 +3,18 @@
  * How the calls are made
  *
  * - Numbers. A call that can refuse returns a number of the table below. Where it is not 0, nothing that was lent has changed: no row, no length.
- *   Where it is 0, the answer fills the front of each row and the rest of the row stays as it was; the lengths say how much is filled.
+ *   Where it is 0, the answer fills the front of each row and the rest of the row stays as it was; the lengths say how much is filled. A call that can't
+ *   refuse returns what its comment says, a byte, a yes or no, or a length, or nothing.
  * - Rows. A row is a pointer and its number of entries (not of bytes). NULL with 0 entries is an empty row. No call keeps a pointer, and none
  *   allocates: everything stays the caller's. The bytes of an input may be anything.
  * - What the caller owes, since nothing here can see it: a pointer leads to as many entries as is said; a pointer to one number or to an array
  *   is not NULL; what a call may write (a row without const, a number, an array) overlaps nothing else that is given to the same call; nobody
- *   else writes to any of it during the call. Rows that are only read may overlap one another.
+ *   else writes to any of it during the call; the stack has room for the call. Rows that are only read may overlap one another.
+ * - Stack. No theorem bounds it, and a program can end at its stack's guard page. A call takes at most, as tools/stack-use reads it off the machine
+ *   code (docs/STACK.md has each call's bytes) and beside what C's memcpy and memset take:
+ *     20,000 bytes: aql_drop_modifications_at, aql_session_mask, aql_session_drop_calls, aql_transcript, aql_duplex_methylation_tags;
+ *      3,000 bytes: aql_drop_masked_modifications, aql_trim_clipped_modifications, aql_session_cut, aql_build_mm_ml_tags, aql_build_mm_tag_no_ml;
+ *        400 bytes: every other.
  * - Yes and no. A uint8_t that asks for a yes is yes for every value but 0; where one is answered it is 1 or 0.
  * - Patterns are given by a read's SAM flags: with 0x80 clear the read shows C to T, with 0x80 set G to A.
  * - Places count from 0 in SEQ, groups from 1.
