@@ -604,14 +604,34 @@ class Lost(Exception):
     """A name of one of the repository's modules that is not found there."""
 
 
-def rests_on(starts):
-    """The definitions that the statements of `starts` rest on, the statements among them, by file in reading order; the kit's names with their modules; and
-    the words that no file brings in, which are the prelude's."""
-    uses, kit, unknown = {}, set(), set()
+@functools.cache
+def contracts():
+    """The propositions that some function's `ensures` cites: what its contract says. The check proves the function to meet its own, whatever it says; so a
+    theorem that takes it speaks of the function's outcomes by its conclusion alone."""
+    cited = set()
+    for crate in crates():
+        for path in files_of(crate, "src"):
+            for item in read_rt(path).items.values():
+                if item.kind == "contract":
+                    cited |= {one for one in names_of(item)[0] if isinstance(one, Item) and is_contract(one)}
+    return cited
+
+
+def is_contract(item):
+    return item.path.split("/")[2] == "specs" and item.path.endswith("Contracts.antt") and item.statement[-2:] == ["Type", "0"]
+
+
+def rests_on(starts, whole=False):
+    """The definitions that the statements of `starts` rest on, the statements among them, by file in reading order; the kit's names with their modules; the
+    words that no file brings in, which are the prelude's; and the contracts that were met on the way. With `whole` contracts are followed like any other."""
+    uses, kit, unknown, met = {}, set(), set(), set()
     todo = [statement_of(item) for item in starts]
     while todo:
         item = todo.pop()
-        if item in uses:
+        if item in uses or item in met:
+            continue
+        if not whole and item in contracts() and item not in starts:
+            met.add(item)
             continue
         found, words = names_of(item)
         uses[item] = [statement_of(one) if is_theorem(one) else one for one in found if isinstance(one, Item)] + list(item.enclosing)
@@ -621,7 +641,8 @@ def rests_on(starts):
                 raise Lost("%s: %s names %s.%s, which is not found" % (item.path, item.name, module, name))
         unknown |= words
         todo += uses[item]
-    return ordered(uses), sorted(kit), sorted(unknown)
+    uses = {item: [one for one in others if one not in met] for item, others in uses.items()}
+    return ordered(uses), sorted(kit), sorted(unknown), sorted(met, key=lambda item: (item.path, item.first))
 
 
 def place(item):

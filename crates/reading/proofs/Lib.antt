@@ -5,3 +5,4 @@ pub mod Unique
 pub mod Numbers
 pub mod Rising
 pub mod Promises
+pub mod Refused
