@@ -29,3 +29,6 @@ pub mod MlValue
 pub mod SameEdit
 pub mod Taken
 pub mod TableNumbers
+pub mod Numbers
+pub mod OneSpelling
+pub mod CanBeMet

@@ -21,21 +21,14 @@ use Rattle.samtags.specs.Text.{closedBy, baseOf, glue, withoutMarks, cod
 use Rattle.lent.specs.Outcome.{done}
 use Rattle.samtags.specs.Spots.{Spot, bare, call, Group, Call, Listing, callsIn, listing, tracked}
 use Rattle.samtags.specs.Reading.{nowhere, readSpots, valuesIf, readGroup, readGroups, read, lists, inDomain, readTag}
-use Rattle.samtags.specs.Samtags.{letterU, ordinal, noCall, GroupMeans, TagMeans, noGroup, aGroup, ledByCommas, pieceText, spelled, Header, isCodeLetter, isMarkText, isHeader, headerText, codeCount, Spelled, isSpelling, pieceOf, meaningOf}
-use Rattle.samtags.proofs.Text.{lacks, header-of, fields-of, group-of, group-ascii}
+use Rattle.samtags.specs.Samtags.{letterU, ordinal, noCall, GroupMeans, TagMeans, noGroup, aGroup, Piece, ledByCommas, pieceText, spelled, Header, isCodeLetter, isMarkText, isHeader, headerText, codeCount, Spelled, isSpelling, pieceOf, meaningOf}
+use Rattle.samtags.proofs.Text.{among-every, lacks, header-of, fields-of, group-of, group-ascii}
 use Rattle.samtags.proofs.Read.{spots-read}
 use Rattle.samtags.proofs.Names.{upperCase, base-upper, names-tracked}
 use Rattle.samtags.proofs.OneMeaning.{call-ext}
-use Rattle.samtags.proofs.ReadMeans.{entries-mean, noU, callsOf, readEntries, tag-means}
+use Rattle.samtags.proofs.ReadMeans.{entries-mean, noU, callsOf, listed-headers, pieceIn, readEntries, tag-means}
 
 -- ---- SAMtags' headers can be read
-
-among-every : (t : ℕ → Bool) (xs : List ℕ) (b : ℕ) → every t xs ≡ true → among xs b ≡ true → t b ≡ true
-among-every t [] b h e = cc
-among-every t (x ∷ xs) b h e =
-    by-test (eqb x b)
-    (λ s. ap t (sym (eqb-true x b s)) ∙ and-true-l (t x) (every t xs) h)
-    (λ s. among-every t xs b (and-true-r (t x) (every t xs) h) (rw s at e))
 
 -- a byte from lo to hi, neither of which c lies between
 range-not : (lo hi c x : ℕ) → (c < lo) ⊎ (hi < c) → leb lo x && leb x hi ≡ true → not (eqb x c) ≡ true
@@ -90,6 +83,7 @@ pub record Readable (h : Header) : Type 0 where
   pub no-semi : lacks semicolon (headerText h) ≡ true
   pub low : every isAscii (headerText h) ≡ true
   pub base-is : baseOf (headerText h) ≡ h .base
+  pub codes-are : codesOf (headerText h) ≡ h .codes
   pub per-is : valuesPer (headerText h) ≡ codeCount h
 
 mark-bytes : every isMark (ascii ".?") ≡ true
@@ -165,14 +159,15 @@ readable h e =
     λ x q. and-true-r (not (eqb x comma)) _ (and-true-l _ _ (and-true-l (not (eqb x comma) && not (eqb x semicolon) && not (isMark x)) (isAscii x) q)) in
     let plain-mark : (x : ℕ) → plain x ≡ true → not (isMark x) ≡ true =
     λ x q. and-true-r (not (eqb x comma) && not (eqb x semicolon)) _ (and-true-l (not (eqb x comma) && not (eqb x semicolon) && not (isMark x)) (isAscii x) q) in
-    let codes-are : withoutMarks (h .codes ++ h .mark) ≡ h .codes =
+    let codes : withoutMarks (h .codes ++ h .mark) ≡ h .codes =
     codes-stay (h .codes) (h .mark) (every-imp plain (λ x. not (isMark x)) plain-mark (h .codes) (p .codes-in)) (marks-go (h .mark) (p .mark-in)) in
     record {
       no-comma = header-every (λ x. not (eqb x comma)) h p refl refl refl plain-comma;
       no-semi = header-every (λ x. not (eqb x semicolon)) h p refl refl refl plain-semi;
       low = header-every isAscii h p refl refl refl (λ x q. and-true-r (not (eqb x comma) && not (eqb x semicolon) && not (isMark x)) (isAscii x) q);
       base-is = eqb-true (upper (h .base)) (h .base) (among-every (λ b. eqb (upper b) b) (ascii "ACGTUN") (h .base) base-bytes (p .base-in));
-      per-is = rw codes-are;
+      codes-are = codes;
+      per-is = rw codes;
     }
 
 -- ---- entries that each name a base are read
@@ -269,7 +264,7 @@ unfolding meaningOf
 taken-is ml? s = rw (length-map (s .skips) value)
 
 -- the text of a group in front of the others
-spelled-closed : (s : Spelled) (ss : List Spelled) → isSpelling s ≡ true
+pub spelled-closed : (s : Spelled) (ss : List Spelled) → isSpelling s ≡ true
     → closedBy semicolon (spelling (s ∷ ss)) ≡ (headerText (s .header) ++ ledByCommas (s .skips)) ∷ closedBy semicolon (spelling ss)
 unfolding isSpelling
 spelled-closed s ss ok =
@@ -365,3 +360,48 @@ pub read-is-meant : (ml? : Bool) (seq : List ℕ) (ss : List Spelled) (ml : List
     → upperCase seq ≡ true → noU ls ≡ true → lists ml? seq (spelled (map pieceOf ss)) ml ≡ done ls
     → TagMeans seq (cond ml? ml []) (map (meaningOf ml?) ss) (callsOf ls)
 read-is-meant ml? seq ss ml ls ok u n e = rw (← spelled-entries ml? ss ok) (tag-means ml? seq (spelling ss) ml ls e u n)
+
+-- its listings have the headers as they are spelled
+spelled-headers : (ss : List Spelled) → every isSpelling ss ≡ true
+    → map (λ (p : Piece). p .header) (map pieceIn (closedBy semicolon (spelling ss))) ≡ map (λ (s : Spelled). headerText (s .header)) ss
+unfolding isSpelling
+spelled-headers [] ok = refl
+spelled-headers (s ∷ ss) ok =
+    let one = and-true-l (isSpelling s) (every isSpelling ss) ok in
+    let num = and-true-r (isHeader (s .header)) (every isNumber (s .skips)) one in
+    let p = readable (s .header) (and-true-l (isHeader (s .header)) (every isNumber (s .skips)) one) in
+    rw (
+      spelled-closed s ss one,
+      header-of (headerText (s .header)) (s .skips) num (p .no-comma),
+      spelled-headers ss (and-true-r (isSpelling s) (every isSpelling ss) ok),
+    )
+
+by-headers : (ss : List Spelled) (ls : List Listing) → map (λ (l : Listing). l .header) ls ≡ map (λ (s : Spelled). headerText (s .header)) ss
+    → ls ≡ listingsOf ss (callsOf ls)
+by-headers [] [] e = refl
+by-headers [] (l ∷ ls) e = let z : _≡_ {A = ℕ} 0 1 = cc in absurd (omega arith)
+by-headers (s ∷ ss) [] e = let z : _≡_ {A = ℕ} 0 1 = cc in absurd (omega arith)
+by-headers (s ∷ ss) (l ∷ ls) e =
+    let here : l .header ≡ headerText (s .header) = cc in
+    let more : map (λ (l : Listing). l .header) ls ≡ map (λ (s : Spelled). headerText (s .header)) ss = cc in
+    ap₂ (λ (x : Listing) (xs : List Listing). x ∷ xs) (λ i. record { header = here i; calls = l .calls }) (by-headers ss ls more)
+
+none-on-u : (ss : List Spelled) (css : List (List Call)) → every isSpelling ss ≡ true → noneOnU ss ≡ true → noU (listingsOf ss css) ≡ true
+unfolding isSpelling
+none-on-u [] css ok nu = refl
+none-on-u (s ∷ ss) [] ok nu = refl
+none-on-u (s ∷ ss) (cs ∷ css) ok nu =
+    let one = and-true-l (isSpelling s) (every isSpelling ss) ok in
+    let p = readable (s .header) (and-true-l (isHeader (s .header)) (every isNumber (s .skips)) one) in
+    rw (p .base-is)
+    (and-true (not (eqb (s .header .base) letterU)) _ (and-true-l (not (eqb (s .header .base) letterU)) (noneOnU ss) nu)
+    (none-on-u ss css (and-true-r (isSpelling s) (every isSpelling ss) ok) (and-true-r (not (eqb (s .header .base) letterU)) (noneOnU ss) nu)))
+
+-- The same with nothing asked of the listings: spelled as SAMtags says, none on U, on an upper-case SEQ. Each listing has its group's header as
+-- spelled.
+pub spelled-is-meant : (ml? : Bool) (seq : List ℕ) (ss : List Spelled) (ml : List ℕ) (ls : List Listing) → every isSpelling ss ≡ true
+    → noneOnU ss ≡ true → upperCase seq ≡ true → lists ml? seq (spelled (map pieceOf ss)) ml ≡ done ls
+    → (ls ≡ listingsOf ss (callsOf ls)) × TagMeans seq (cond ml? ml []) (map (meaningOf ml?) ss) (callsOf ls)
+spelled-is-meant ml? seq ss ml ls ok nu u e =
+    let are = by-headers ss ls (listed-headers ml? seq (spelling ss) ml ls e ∙ spelled-headers ss ok) in
+    (are, read-is-meant ml? seq ss ml ls ok u (ap noU are ∙ none-on-u ss (callsOf ls) ok nu) e)

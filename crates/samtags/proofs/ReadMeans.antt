@@ -200,6 +200,14 @@ tag-means ml? seq text ml ls e u n =
     subst (λ (l : List Listing). TagMeans seq (cond ml? ml []) (map (readEntries ml?) (closedBy semicolon text)) (callsOf l)) same
     (groups-mean (tag-read ml? nowhere seq text ml (i .0) (i .1) .groups) u (rw same n))
 
+-- the headers of a tag that is read are those of the pieces of its text
+pub listed-headers : (ml? : Bool) (seq text ml : List ℕ) (ls : List Listing) → lists ml? seq text ml ≡ done ls
+    → map (λ (l : Listing). l .header) ls ≡ map (λ (p : Piece). p .header) (map pieceIn (closedBy semicolon text))
+unfolding lists
+listed-headers ml? seq text ml ls e =
+    let i = and-then-inv (read ml? nowhere seq text ml) _ ls e in
+    rw (← done-inj (i .2)) (groups-headers (tag-read ml? nowhere seq text ml (i .0) (i .1) .groups))
+
 -- A tag that is read: the pieces that spell its text, and that its listings are what SAMtags says of them. What a header means is the reader's:
 -- its base in upper case, and its values per base.
 pub record Read-means (ml? : Bool) (seq text ml : List ℕ) (ls : List Listing) : Type 0 where
@@ -221,6 +229,6 @@ reading-means ml? seq text ml ls e u n =
       pieces = map pieceIn ps;
       spells = text-spells text (t .ends);
       numbers = groups-numbers (t .groups);
-      headers = rw (← done-inj (i .2)) (groups-headers (t .groups));
+      headers = listed-headers ml? seq text ml ls e;
       means = rw (map-map (entriesOf baseOf (valuesIf ml?)) pieceIn ps) (tag-means ml? seq text ml ls e u n);
     }

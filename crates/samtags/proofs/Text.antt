@@ -1,15 +1,15 @@
 -- A text that was put together from headers and fields falls into the same headers and fields; and what holds of each byte of a text holds of
 -- each byte of its pieces.
 -- Assumes nothing.
-use mathlib.Core.Path.{_≡_, refl, ap}
+use mathlib.Core.Path.{_≡_, refl, sym, ap, _∙_}
 use Prim.Native.Nat.{ℕ, _≤_, _<_}
 use native.Mathlib.Omega.{arith}
 use mathlib.Core.Bool.{Bool, true, false, not}
 use mathlib.Core.List.{List, [], _∷_, _++_, map, append-nil, append-assoc}
 use mathlib.Core.Logic.{_⊎_, inl, inr, ⊎-elim}
 use lib.Dec.{leb, eqb, lit<}
-use borrow.Author.Tests.{le-leb, leb-true, ne-eqb, not-true}
-use Rattle.lent.specs.Lists.{every, isEmpty, lastOr}
+use borrow.Author.Tests.{eqb-true, le-leb, leb-true, ne-eqb, not-true}
+use Rattle.lent.specs.Lists.{among, every, isEmpty, lastOr}
 use Rattle.lent.proofs.Tests.{by-test, and-true, and-true-l, and-true-r}
 use Rattle.lent.proofs.Lists.{every-append, every-imp}
 use Rattle.samtags.specs.Bytes.{comma, semicolon, isDigit, isAscii}
@@ -123,7 +123,14 @@ pub digits-numbers : (ns : List ℕ) → every isNumber (map digits ns) ≡ true
 digits-numbers [] = refl
 digits-numbers (n ∷ ns) = rw (digits-number n) (digits-numbers ns)
 
--- ---- what holds of each byte of a text holds of each byte of its pieces
+-- ---- what holds of each byte of a text holds of each byte of its pieces, and of a byte that stands in it
+
+pub among-every : (t : ℕ → Bool) (xs : List ℕ) (b : ℕ) → every t xs ≡ true → among xs b ≡ true → t b ≡ true
+among-every t [] b h e = cc
+among-every t (x ∷ xs) b h e =
+    by-test (eqb x b)
+    (λ s. ap t (sym (eqb-true x b s)) ∙ and-true-l (t x) (every t xs) h)
+    (λ s. among-every t xs b (and-true-r (t x) (every t xs) h) (rw s at e))
 
 pub up-to-every : (t : ℕ → Bool) (c : ℕ) (xs : List ℕ) → every t xs ≡ true → every t (upTo c xs) ≡ true
 up-to-every t c [] h = refl
