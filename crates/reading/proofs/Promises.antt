@@ -2,25 +2,27 @@
 -- SAMtags gives a meaning is accepted with exactly its calls, and `tally` counts the values of the calls.
 -- Assumes nothing.
 use mathlib.Core.Path.{_≡_, ap, sym, _∙_}
-use Prim.Native.Nat.{ℕ, _+_}
+use Prim.Native.Nat.{ℕ, _+_, _≤_}
 use mathlib.Core.Bool.{Bool, true, cond, _&&_}
 use mathlib.Core.List.{List, [], _∷_, map}
 use lib.Dec.{leb}
 use lib.ListN.{length}
+use borrow.Author.Tests.{le-leb}
 use Rattle.lent.proofs.Filled.{leaves-done}
 use Rattle.lent.proofs.Outcome.{and-then-inv, done-inj, need-rest, on-done-inv}
 use Rattle.lent.specs.Filled.{leaves, over}
 use Rattle.lent.specs.Lists.{every}
 use Rattle.lent.specs.Outcome.{Outcome, done, onDone}
-use Rattle.samtags.proofs.MeantIsRead.{listingsOf, meant-is-accepted, noneOnU}
+use Rattle.samtags.proofs.MeantIsRead.{listingsOf, meant-is-accepted, noneOnU, spelled-is-meant}
 use Rattle.samtags.proofs.Names.{upperCase}
-use Rattle.samtags.proofs.ReadMeans.{Read-means, noU, reading-means}
+use Rattle.samtags.proofs.ReadMeans.{Read-means, callsOf, noU, reading-means}
 use Rattle.samtags.proofs.Tally.{allCalls, tallyCalls, tally-counts-all, tally-is-a-fold}
 use Rattle.samtags.specs.Reading.{Tally, callList, inDomain, lists, readTag, tallyOf, tallyTag}
 use Rattle.samtags.specs.Samtags.{Spelled, TagMeans, isSpelling, meaningOf, pieceOf, spelled}
 use Rattle.samtags.specs.Spots.{Call, Listing}
-use Rattle.reading.specs.Answers.{readingSays, tallySays}
-use Rattle.reading.specs.Calls.{CallsRead, callsRead, countsOf, groupColumn, listedCalls, placeColumn, readCalls, startColumn}
+use Rattle.reading.specs.Answers.{readingSays}
+use Rattle.reading.specs.Calls.{CallsRead, countsOf, groupColumn, listedCalls, placeColumn, readCalls, startColumn}
+use Rattle.reading.specs.Contracts.{ChecksTag, ReadsCalls, Tallies}
 use Rattle.reading.specs.declared.Reading.{Reading}
 use Rattle.reading.specs.declared.Reading.the-variants as reading
 use Rattle.reading.specs.declared.Tallied.the-variants as tallied
@@ -53,15 +55,14 @@ module _ (ml? : Bool) (seq text ml : List ℕ) (groups calls : ℕ) where
       }
 
   -- `check_tag` answered Done
-  pub check-tag-means : readingSays (reading.Done groups calls) ≡ onDone countsOf (readTag ml? seq text ml)
-      → (ls : List Listing) × Accepted ml? seq text ml groups calls ls
+  pub check-tag-means : ChecksTag ml? seq text ml (reading.Done groups calls) → (ls : List Listing) × Accepted ml? seq text ml groups calls ls
   check-tag-means e =
       let i = on-done-inv countsOf (readTag ml? seq text ml) (groups, calls) (sym e) in
       (i .0, accepted (i .0) (i .1) (i .2))
 
   -- `read_calls` answered Done, and left these columns
   pub read-calls-mean : (gs ps ss gs′ ps′ ss′ : List ℕ)
-      → callsRead (readingSays (reading.Done groups calls)) gs′ ps′ ss′ ≡ readCalls ml? seq text ml gs ps ss
+      → ReadsCalls ml? seq text ml gs ps ss (reading.Done groups calls) gs′ ps′ ss′
       → (ls : List Listing) × Accepted ml? seq text ml groups calls ls
       × (gs′ ≡ over (groupColumn ls) gs) × (ps′ ≡ over (placeColumn ls) ps) × (ss′ ≡ over (startColumn ls) ss)
   unfolding readCalls listedCalls
@@ -85,15 +86,72 @@ module _ (ml? : Bool) (seq text ml : List ℕ) (groups calls : ℕ) where
 pub check-tag-accepts : (ml? : Bool) (seq : List ℕ) (s : Spelled) (ss : List Spelled) (ml : List ℕ) (css : List (List Call)) (r : Reading)
     → every isSpelling (s ∷ ss) ≡ true → noneOnU (s ∷ ss) ≡ true → upperCase seq ≡ true
     → TagMeans seq (cond ml? ml []) (map (meaningOf ml?) (s ∷ ss)) css → inDomain ml? seq (spelled (map pieceOf (s ∷ ss))) ml ≡ true
-    → readingSays r ≡ onDone countsOf (readTag ml? seq (spelled (map pieceOf (s ∷ ss))) ml)
+    → ChecksTag ml? seq (spelled (map pieceOf (s ∷ ss))) ml r
     → readingSays r ≡ done (countsOf (listingsOf (s ∷ ss) css))
 check-tag-accepts ml? seq s ss ml css r ok none upper means within e =
     e ∙ ap (onDone countsOf) (meant-is-accepted ml? seq s ss ml css ok none upper means within)
 
+-- The same of `read_calls`: where the list fits the columns, it is exactly that of the calls that SAMtags gives, and the rest of each column stays.
+pub read-calls-lists : (ml? : Bool) (seq : List ℕ) (s : Spelled) (ss : List Spelled) (ml : List ℕ) (css : List (List Call))
+    → every isSpelling (s ∷ ss) ≡ true → noneOnU (s ∷ ss) ≡ true → upperCase seq ≡ true
+    → TagMeans seq (cond ml? ml []) (map (meaningOf ml?) (s ∷ ss)) css → inDomain ml? seq (spelled (map pieceOf (s ∷ ss))) ml ≡ true
+    → (gs ps ts : List ℕ) (r : Reading) (gs′ ps′ ts′ : List ℕ)
+    → length (callList (listingsOf (s ∷ ss) css)) ≤ length gs → length (callList (listingsOf (s ∷ ss) css)) ≤ length ps
+    → length (callList (listingsOf (s ∷ ss) css)) ≤ length ts
+    → ReadsCalls ml? seq (spelled (map pieceOf (s ∷ ss))) ml gs ps ts r gs′ ps′ ts′
+    → (readingSays r ≡ done (countsOf (listingsOf (s ∷ ss) css))) × (gs′ ≡ over (groupColumn (listingsOf (s ∷ ss) css)) gs)
+    × (ps′ ≡ over (placeColumn (listingsOf (s ∷ ss) css)) ps) × (ts′ ≡ over (startColumn (listingsOf (s ∷ ss) css)) ts)
+unfolding readCalls listedCalls
+read-calls-lists ml? seq s ss ml css ok none upper means within gs ps ts r gs′ ps′ ts′ a b c e =
+    let ls = listingsOf (s ∷ ss) css in
+    let n = length (callList ls) in
+    let text = spelled (map pieceOf (s ∷ ss)) in
+    let o = listedCalls ml? seq text ml (length gs) (length ps) (length ts) in
+    let is : o ≡ done ls =
+    rw (meant-is-accepted ml? seq s ss ml css ok none upper means within, le-leb n (length gs) a, le-leb n (length ps) b, le-leb n (length ts) c) in (
+      ap (λ (c : CallsRead). c .answer) e ∙ ap (onDone countsOf) is,
+      ap (λ (c : CallsRead). c .groups) e ∙ left groupColumn o ls gs is,
+      ap (λ (c : CallsRead). c .places) e ∙ left placeColumn o ls ps is,
+      ap (λ (c : CallsRead). c .starts) e ∙ left startColumn o ls ts is,
+    )
+
+-- ---- and a tag so spelled that is accepted has that meaning, where codes count as SAMtags says
+
+module _ (ml? : Bool) (seq : List ℕ) (ss : List Spelled) (ml : List ℕ) (spelt : every isSpelling ss ≡ true) (none : noneOnU ss ≡ true) (upper : upperCase seq ≡ true) where
+  is-meant : (ls : List Listing) → readTag ml? seq (spelled (map pieceOf ss)) ml ≡ done ls
+      → (ls ≡ listingsOf ss (callsOf ls)) × TagMeans seq (cond ml? ml []) (map (meaningOf ml?) ss) (callsOf ls)
+  unfolding readTag
+  is-meant ls e = spelled-is-meant ml? seq ss ml ls spelt none upper (need-rest (inDomain ml? seq (spelled (map pieceOf ss)) ml) 1 _ ls e)
+
+  pub check-tag-is-meant : (groups calls : ℕ) → ChecksTag ml? seq (spelled (map pieceOf ss)) ml (reading.Done groups calls)
+      → (css : List (List Call)) × TagMeans seq (cond ml? ml []) (map (meaningOf ml?) ss) css
+      × (_≡_ {A = ℕ × ℕ} (countsOf (listingsOf ss css)) (groups, calls))
+  check-tag-is-meant groups calls e =
+      let (ls, acc) = check-tag-means ml? seq (spelled (map pieceOf ss)) ml groups calls e in
+      let m = is-meant ls (acc .read) in
+      (callsOf ls, m .1, ap countsOf (sym (m .0)) ∙ acc .counts)
+
+  pub read-calls-is-meant : (groups calls : ℕ) (gs ps ts gs′ ps′ ts′ : List ℕ)
+      → ReadsCalls ml? seq (spelled (map pieceOf ss)) ml gs ps ts (reading.Done groups calls) gs′ ps′ ts′
+      → (css : List (List Call)) × TagMeans seq (cond ml? ml []) (map (meaningOf ml?) ss) css
+      × (_≡_ {A = ℕ × ℕ} (countsOf (listingsOf ss css)) (groups, calls))
+      × (gs′ ≡ over (groupColumn (listingsOf ss css)) gs) × (ps′ ≡ over (placeColumn (listingsOf ss css)) ps)
+      × (ts′ ≡ over (startColumn (listingsOf ss css)) ts)
+  read-calls-is-meant groups calls gs ps ts gs′ ps′ ts′ e =
+      let (ls, acc, g, p, t) = read-calls-mean ml? seq (spelled (map pieceOf ss)) ml groups calls gs ps ts gs′ ps′ ts′ e in
+      let m = is-meant ls (acc .read) in (
+        callsOf ls,
+        m .1,
+        ap countsOf (sym (m .0)) ∙ acc .counts,
+        g ∙ ap (λ (l : List Listing). over (groupColumn l) gs) (m .0),
+        p ∙ ap (λ (l : List Listing). over (placeColumn l) ps) (m .0),
+        t ∙ ap (λ (l : List Listing). over (startColumn l) ts) (m .0),
+      )
+
 -- ---- the tally
 
 -- `tally` answered Done: a fold over the calls that are read, and no value is invented
-pub tally-means : (seq text ml : List ℕ) (above below : ℕ) → tallySays (tallied.Done above below) ≡ tallyTag seq text ml
+pub tally-means : (seq text ml : List ℕ) (above below : ℕ) → Tallies seq text ml (tallied.Done above below)
     → (ls : List Listing) × (readTag true seq text ml ≡ done ls)
     × (_≡_ {A = Tally} (record { above = above; below = below }) (tallyCalls (allCalls ls))) × (above + below ≡ length ml)
 unfolding tallyTag readTag

@@ -7,10 +7,10 @@ use mathlib.Core.Bool.{Bool}
 use mathlib.Core.List.{List}
 use Rattle.lent.proofs.Filled.{settled}
 use Rattle.lent.proofs.Outcome.{done-inj}
-use Rattle.lent.specs.Outcome.{onDone}
-use Rattle.samtags.specs.Reading.{Tally, readTag, tallyTag}
+use Rattle.samtags.specs.Reading.{Tally}
 use Rattle.reading.specs.Answers.{readingSays, tallySays}
-use Rattle.reading.specs.Calls.{CallsRead, callsRead, countsOf, readCalls}
+use Rattle.reading.specs.Calls.{CallsRead, callsRead}
+use Rattle.reading.specs.Contracts.{ChecksTag, ReadsCalls, Tallies}
 use Rattle.reading.specs.declared.Reading.{Reading}
 use Rattle.reading.specs.declared.Tallied.{Tallied}
 use Rattle.reading.specs.declared.Reading.the-variants as reading
@@ -32,21 +32,20 @@ tally-says-inj (tallied.Refused q) (tallied.Done h m) e = let z : _≡_ {A = ℕ
 tally-says-inj (tallied.Refused q) (tallied.Refused r) e = let p : q ≡ r = cc in ap tallied.Refused p
 
 pub check-tag-unique : (ml? : Bool) (seq mm ml : List ℕ) (r s : Reading)
-    → readingSays r ≡ onDone countsOf (readTag ml? seq mm ml) → readingSays s ≡ onDone countsOf (readTag ml? seq mm ml) → r ≡ s
+    → ChecksTag ml? seq mm ml r → ChecksTag ml? seq mm ml s → r ≡ s
 check-tag-unique ml? seq mm ml r s p q = reading-says-inj r s (settled (readingSays r) (readingSays s) p q)
 
 -- the answer and the three columns
 pub read-calls-unique : (ml? : Bool) (seq mm ml groups places starts : List ℕ) (r s : Reading) (g h p q a b : List ℕ)
-    → callsRead (readingSays r) g p a ≡ readCalls ml? seq mm ml groups places starts
-    → callsRead (readingSays s) h q b ≡ readCalls ml? seq mm ml groups places starts → (r ≡ s) × (g ≡ h) × (p ≡ q) × (a ≡ b)
+    → ReadsCalls ml? seq mm ml groups places starts r g p a → ReadsCalls ml? seq mm ml groups places starts s h q b
+    → (r ≡ s) × (g ≡ h) × (p ≡ q) × (a ≡ b)
 read-calls-unique ml? seq mm ml groups places starts r s g h p q a b e f =
     let same = settled (callsRead (readingSays r) g p a) (callsRead (readingSays s) h q b) e f in (
       reading-says-inj r s (ap (λ (c : CallsRead). c .answer) same),
       ap (λ (c : CallsRead). c .groups) same,
       ap (λ (c : CallsRead). c .places) same,
-      ap
-          (λ (c : CallsRead). c .starts) same,
+      ap (λ (c : CallsRead). c .starts) same,
     )
 
-pub tally-unique : (seq mm ml : List ℕ) (r s : Tallied) → tallySays r ≡ tallyTag seq mm ml → tallySays s ≡ tallyTag seq mm ml → r ≡ s
+pub tally-unique : (seq mm ml : List ℕ) (r s : Tallied) → Tallies seq mm ml r → Tallies seq mm ml s → r ≡ s
 tally-unique seq mm ml r s p q = tally-says-inj r s (settled (tallySays r) (tallySays s) p q)

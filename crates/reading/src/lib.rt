@@ -5,10 +5,9 @@
 ghost use mathlib.Core.Path.{_≡_};
 ghost use lib.ListN.{length};
 ghost use Rattle.lent.specs.Lists.{filter};
-ghost use Rattle.lent.specs.Outcome.{onDone, need};
-ghost use Rattle.samtags.specs.Reading.{readTag, tallyTag, inDomain, read, nowhere, isAbove};
-ghost use Rattle.reading.specs.Answers.{readingSays, tallySays};
-ghost use Rattle.reading.specs.Calls.{countsOf, callsRead, readCalls};
+ghost use Rattle.lent.specs.Outcome.{need};
+ghost use Rattle.samtags.specs.Reading.{inDomain, read, nowhere, isAbove};
+ghost use Rattle.reading.specs.Contracts.{ChecksTag, ReadsCalls, Tallies};
 ghost use Rattle.reading.specs.Measured.{TagMeasured};
 use lent::Refusal;
 use measuring::Counted;
@@ -50,7 +49,7 @@ fn measure(seq: &[u8], mm: &[u8], ml: &[u8], has_ml: bool) -> Counted
 
 // Reads a tag and answers without a list: how many groups and calls it has.
 pub fn check_tag(seq: &[u8], mm: &[u8], ml: &[u8], has_ml: bool) -> Reading
-    ensures { λ r. ⌜ readingSays r ≡ onDone countsOf (readTag «has_ml» (now (seq .entry)) (now (mm .entry)) (now (ml .entry))) ⌝ }
+    ensures { λ r. ⌜ ChecksTag «has_ml» (now (seq .entry)) (now (mm .entry)) (now (ml .entry)) r ⌝ }
 {
     let measured = measure(seq, mm, ml, has_ml);
     let Counted::To(end) = measured else {
@@ -72,15 +71,18 @@ pub fn read_calls(
     starts: &mut [u32],
 ) -> Reading
     ensures { λ r.
-        ⌜ callsRead (readingSays r) (now (groups .exit)) (now (places .exit)) (now (starts .exit))
-        ≡ readCalls
+        ⌜ ReadsCalls
         «has_ml»
         (now (seq .entry))
         (now (mm .entry))
         (now (ml .entry))
         (now (groups .entry))
         (now (places .entry))
-        (now (starts .entry)) ⌝ }
+        (now (starts .entry))
+        r
+        (now (groups .exit))
+        (now (places .exit))
+        (now (starts .exit)) ⌝ }
 {
     let measured = measure(seq, mm, ml, has_ml);
     let Counted::To(end) = measured else {
@@ -118,7 +120,7 @@ fn count_above(ml: &[u8]) -> usize
 
 // How many of a tag's ML values are above (from 128 on) and how many below; each value counts once. It always takes an ML.
 pub fn tally(seq: &[u8], mm: &[u8], ml: &[u8]) -> Tallied
-    ensures { λ r. ⌜ tallySays r ≡ tallyTag (now (seq .entry)) (now (mm .entry)) (now (ml .entry)) ⌝ }
+    ensures { λ r. ⌜ Tallies (now (seq .entry)) (now (mm .entry)) (now (ml .entry)) r ⌝ }
 {
     let measured = measure(seq, mm, ml, true);
     let Counted::To(_) = measured else {
