@@ -1,2 +1,4 @@
 pub mod Measured
 pub mod Unique
+pub mod Cited
+pub mod Numbers

@@ -2,14 +2,12 @@
 //
 // Names are the Rust's. The evidence is three columns, as long as the consensus: informative (nonzero is yes), unconverted and converted. A base of
 // the pattern's letter, in any case, that is informative and has a read counted is listed, with the skips since the last one. No function here asks
-// anything of its caller, and each contract is an equation with a definition of `samtags`.
+// anything of its caller, and each public contract is a proposition of specs/Contracts.antt.
 ghost use mathlib.Core.Path.{_≡_};
-ghost use mathlib.Core.Bool.{true, false};
-ghost use lib.ListN.{length};
-ghost use Rattle.lent.specs.Outcome.{onDone, says, tagSays};
-ghost use Rattle.lent.specs.Filled.{leaves};
-ghost use Rattle.samtags.specs.Writing.{Tag, sizesOf};
-ghost use Rattle.samtags.specs.Building.{columns, builtTag, buildTag};
+ghost use Rattle.lent.specs.Outcome.{onDone, tagSays};
+ghost use Rattle.samtags.specs.Writing.{sizesOf};
+ghost use Rattle.samtags.specs.Building.{columns, builtTag};
+ghost use Rattle.building.specs.Contracts.{Built, BuiltAlone};
 use lent::Refusal;
 use lent::Tagged;
 use lent::Written;
@@ -63,12 +61,8 @@ pub fn build_mm_ml_tags(
     mm: &mut [u8],
     ml: &mut [u8],
 ) -> Tagged
-    ensures { λ r. ⌜ (let o = buildTag true «methylation_mode» pattern
-        (columns (now (informative .entry)) (now (unconverted .entry)) (now (converted .entry))) (now («consensus_bases» .entry))
-        (length (now (mm .entry))) (length (now (ml .entry))) in
-        (tagSays r ≡ onDone sizesOf o)
-        × (now (mm .exit) ≡ leaves (λ (t : Tag). t .text) o (now (mm .entry)))
-        × (now (ml .exit) ≡ leaves (λ (t : Tag). t .ml) o (now (ml .entry)))) ⌝ }
+    ensures { λ r. ⌜ Built «methylation_mode» pattern (columns (now (informative .entry)) (now (unconverted .entry)) (now (converted .entry)))
+        (now («consensus_bases» .entry)) (now (mm .entry)) (now (ml .entry)) r (now (mm .exit)) (now (ml .exit)) ⌝ }
 {
     let asked = measure(
         consensus_bases,
@@ -112,11 +106,8 @@ pub fn build_mm_tag_no_ml(
     methylation_mode: MethylationMode,
     mm: &mut [u8],
 ) -> Written
-    ensures { λ r. ⌜ (let o = buildTag false «methylation_mode» pattern
-        (columns (now (informative .entry)) (now (unconverted .entry)) (now (converted .entry))) (now («consensus_bases» .entry))
-        (length (now (mm .entry))) 0 in
-        (says r ≡ onDone (λ (t : Tag). length (t .text)) o)
-        × (now (mm .exit) ≡ leaves (λ (t : Tag). t .text) o (now (mm .entry)))) ⌝ }
+    ensures { λ r. ⌜ BuiltAlone «methylation_mode» pattern (columns (now (informative .entry)) (now (unconverted .entry)) (now (converted .entry)))
+        (now («consensus_bases» .entry)) (now (mm .entry)) r (now (mm .exit)) ⌝ }
 {
     let asked = measure(
         consensus_bases,

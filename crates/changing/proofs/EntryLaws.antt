@@ -149,7 +149,7 @@ module _ (held denied : ℕ → Bool) (k : ℕ) (f places : List ℕ) (left : �
     pub read-seven : (r : Refusal) → refused r ≡ passing held 0 n places → refused r ≡ read-here
     read-seven r h =
         let w = go (drop n places) h in
-        rw (w .0, entry-refused k denied f places left (refusal 7) (entry-seven f places few n e (w .1)))
+        rw (w .0, entry-refused k denied f places left (refusal 7) (entry-seven f places 16001 (omega arith) n e (w .1)))
       where
         go : (l : List ℕ) → refused r ≡ withFirst {B = ℕ × ℕ} l 7 (λ p rest. done (p, 0 + length (filter held (take n places))))
             → (r ≡ refusal 7) × (none ≡ firstOf l)
@@ -161,7 +161,7 @@ module _ (held denied : ℕ → Bool) (k : ℕ) (f places : List ℕ) (left : �
       found =
           let w = with-first-inv (drop n places) 7 _ (p, c) (sym h) in
           let same : w .0 ≡ p = ap (λ (x : ℕ × ℕ). x .0) (done-inj (w .3)) in
-          entry-on f places few n e p (rw (w .2, same))
+          entry-on f places 16001 (omega arith) n e p (rw (w .2, same))
 
       count : length (filter held (take (value f) places)) ≡ c
       count =

@@ -2,3 +2,5 @@ pub mod Admitted
 pub mod Pieces
 pub mod Roomy
 pub mod Unique
+pub mod Cited
+pub mod Numbers

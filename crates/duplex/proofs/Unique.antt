@@ -1,83 +1,38 @@
 -- The public call's contract settles its answer and every entry of the rows lent to it: two outcomes that meet it are equal.
 -- Assumes nothing.
-use mathlib.Core.Path.{_≡_, ap, sym, _∙_}
+use mathlib.Core.Path.{_≡_, ap}
 use Prim.Native.Nat.{ℕ}
 use native.Mathlib.Omega.{arith}
 use mathlib.Core.List.{List}
-use lib.IntN.{ℤ}
-use lib.ListN.{length}
 use Rattle.lent.proofs.Filled.{settled}
 use Rattle.lent.proofs.Outcome.{done-inj}
-use Rattle.lent.specs.Filled.{leaves}
-use Rattle.lent.specs.Outcome.{Outcome, onDone}
 use Rattle.pattern.specs.declared.MethylationMode.{MethylationMode}
 use Rattle.samtags.specs.Building.{Strand}
 use Rattle.duplex.specs.Answers.{duplexSays}
-use Rattle.duplex.specs.Duplex.{Duplexed, duplexTags, lengthsOf, rows}
+use Rattle.duplex.specs.Contracts.{Duplexes, Rows, elevenRows}
 use Rattle.duplex.specs.declared.Duplex.{Duplex}
 use Rattle.duplex.specs.declared.Duplex.the-variants as duplex
-use Rattle.duplex.specs.declared.Lengths.{Lengths}
 
--- the eleven rows that are lent
-pub record Rows : Type 0 where
-  pub seq : List ℕ
-  pub mm : List ℕ
-  pub ml : List ℕ
-  pub unconverted : List ℤ
-  pub converted : List ℤ
-  pub firstMm : List ℕ
-  pub firstUnconverted : List ℤ
-  pub firstConverted : List ℤ
-  pub secondMm : List ℕ
-  pub secondUnconverted : List ℤ
-  pub secondConverted : List ℤ
+duplex-says-inj : (r s : Duplex) → duplexSays r ≡ duplexSays s → r ≡ s
+duplex-says-inj (duplex.Done k) (duplex.Done l) e = ap duplex.Done (done-inj e)
+duplex-says-inj (duplex.Done k) (duplex.Refused t) e = let z : _≡_ {A = ℕ} 0 1 = cc in absurd (omega arith)
+duplex-says-inj (duplex.Refused q) (duplex.Done l) e = let z : _≡_ {A = ℕ} 0 1 = cc in absurd (omega arith)
+duplex-says-inj (duplex.Refused q) (duplex.Refused t) e = let p : q ≡ t = cc in ap duplex.Refused p
 
--- how long they are
-abbrev pub lengthsLent : Rows → Lengths
-lengthsLent l = rows
-    (length (l .seq))
-    (length (l .mm))
-    (length (l .ml))
-    (length (l .unconverted))
-    (length (l .converted))
-    (length (l .firstMm))
-    (length (l .firstUnconverted))
-    (length (l .firstConverted))
-    (length (l .secondMm))
-    (length (l .secondUnconverted))
-    (length (l .secondConverted))
-
--- the rows as a call that came to this leaves them
-abbrev pub leftBy : Outcome Duplexed → Rows → Rows
-leftBy o l = record {
-  seq = leaves (λ (d : Duplexed). d .seq) o (l .seq);
-  mm = leaves (λ (d : Duplexed). d .joined .text) o (l .mm);
-  ml = leaves (λ (d : Duplexed). d .joined .ml) o (l .ml);
-  unconverted = leaves (λ (d : Duplexed). d .unconverted) o (l .unconverted);
-  converted = leaves (λ (d : Duplexed). d .converted) o (l .converted);
-  firstMm = leaves (λ (d : Duplexed). d .first .text) o (l .firstMm);
-  firstUnconverted = leaves (λ (d : Duplexed). d .first .unconverted) o (l .firstUnconverted);
-  firstConverted = leaves (λ (d : Duplexed). d .first .converted) o (l .firstConverted);
-  secondMm = leaves (λ (d : Duplexed). d .second .text) o (l .secondMm);
-  secondUnconverted = leaves (λ (d : Duplexed). d .second .unconverted) o (l .secondUnconverted);
-  secondConverted = leaves (λ (d : Duplexed). d .second .converted) o (l .secondConverted);
-}
-
-module _ (count : ℕ) (mode : MethylationMode) (bases : List ℕ) (a b : Strand) (lent : Rows) where
-  -- what the call comes to
-  abbrev pub outcome : Outcome Duplexed
-  outcome = duplexTags count mode bases a b (lengthsLent lent)
-
-  -- what it answers, and what it leaves in the rows
-  abbrev pub Duplexes : Duplex → Rows → Type 0
-  Duplexes r l = (duplexSays r ≡ onDone lengthsOf outcome) × (l ≡ leftBy outcome lent)
-
-  duplex-says-inj : (r s : Duplex) → duplexSays r ≡ duplexSays s → r ≡ s
-  duplex-says-inj (duplex.Done k) (duplex.Done l) e = ap duplex.Done (done-inj e)
-  duplex-says-inj (duplex.Done k) (duplex.Refused t) e = let z : _≡_ {A = ℕ} 0 1 = cc in absurd (omega arith)
-  duplex-says-inj (duplex.Refused q) (duplex.Done l) e = let z : _≡_ {A = ℕ} 0 1 = cc in absurd (omega arith)
-  duplex-says-inj (duplex.Refused q) (duplex.Refused t) e = let p : q ≡ t = cc in ap duplex.Refused p
-
-  pub duplex-methylation-tags-unique : (r s : Duplex) (k l : Rows) → Duplexes r k → Duplexes s l → (r ≡ s) × (k ≡ l)
-  duplex-methylation-tags-unique r s k l e f =
-      (duplex-says-inj r s (settled (duplexSays r) (duplexSays s) (e .0) (f .0)), settled k l (e .1) (f .1))
+pub duplex-methylation-tags-unique : (count : ℕ) (mode : MethylationMode) (bases : List ℕ) (a b : Strand) (lent : Rows) (r s : Duplex) (k l : Rows)
+    → Duplexes count mode bases a b lent r k → Duplexes count mode bases a b lent s l → (r ≡ s) × (k ≡ l)
+duplex-methylation-tags-unique count mode bases a b lent r s k l e f =
+    let seq = settled (k .seq) (l .seq) (e .1) (f .1) in
+    let mm = settled (k .mm) (l .mm) (e .2) (f .2) in
+    let ml = settled (k .ml) (l .ml) (e .3) (f .3) in
+    let u = settled (k .unconverted) (l .unconverted) (e .4) (f .4) in
+    let c = settled (k .converted) (l .converted) (e .5) (f .5) in
+    let mm₁ = settled (k .firstMm) (l .firstMm) (e .6) (f .6) in
+    let u₁ = settled (k .firstUnconverted) (l .firstUnconverted) (e .7) (f .7) in
+    let c₁ = settled (k .firstConverted) (l .firstConverted) (e .8) (f .8) in
+    let mm₂ = settled (k .secondMm) (l .secondMm) (e .9) (f .9) in
+    let u₂ = settled (k .secondUnconverted) (l .secondUnconverted) (e .10) (f .10) in
+    let c₂ = settled (k .secondConverted) (l .secondConverted) (e .11) (f .11) in (
+      duplex-says-inj r s (settled (duplexSays r) (duplexSays s) (e .0) (f .0)),
+      λ j. elevenRows (seq j) (mm j) (ml j) (u j) (c j) (mm₁ j) (u₁ j) (c₁ j) (mm₂ j) (u₂ j) (c₂ j),
+    )

@@ -1,3 +1,4 @@
 pub mod Duplex
 pub mod Answers
 pub mod Measured
+pub mod Contracts

@@ -2,18 +2,15 @@
 //
 // Names are the Rust's. Each strand is a pattern and three columns of evidence, as long as the consensus. SEQ is restored by each strand, each strand's
 // tag is built over that SEQ, and the joined tag has the C to T strand's group first. The number of strands is given as a number; with one the second
-// strand's inputs are not read and its rows stay as lent. No function here asks anything of its caller, and the contract is an equation with a
-// definition of specs/Duplex.antt.
+// strand's inputs are not read and its rows stay as lent. No function here asks anything of its caller, and the contract is `Duplexes` of
+// specs/Contracts.antt.
 ghost use mathlib.Core.Path.{_≡_};
 ghost use mathlib.Core.Bool.{true, cond, _&&_, _||_};
 ghost use Prim.Native.Nat.{_+_, _≤_};
 ghost use lib.Dec.{eqb, leb};
-ghost use lib.ListN.{length};
-ghost use Rattle.lent.specs.Outcome.{onDone};
-ghost use Rattle.lent.specs.Filled.{leaves};
 ghost use Rattle.samtags.specs.Building.{columns, evidenceInDomain, evidenceAgrees};
-ghost use Rattle.duplex.specs.Duplex.{Duplexed, strand, rows, lengthsOf, within, admitted, duplexTags};
-ghost use Rattle.duplex.specs.Answers.{duplexSays};
+ghost use Rattle.duplex.specs.Duplex.{strand, within, admitted};
+ghost use Rattle.duplex.specs.Contracts.{Duplexes, elevenRows};
 ghost use Rattle.duplex.specs.Measured.{measuredSays, measuredRefusal, restoredSeq, bothSizes, partLengths};
 use joining::BothSizes;
 use lent::Refusal;
@@ -256,25 +253,16 @@ pub fn duplex_methylation_tags(
     second_unconverted_counts: &mut [i16],
     second_converted_counts: &mut [i16],
 ) -> Duplex
-    ensures { λ r. ⌜ (let a = strand first (now («first_informative» .entry)) (now («first_unconverted» .entry)) (now («first_converted» .entry)) in
-        let b = strand second (now («second_informative» .entry)) (now («second_unconverted» .entry)) (now («second_converted» .entry)) in
-        let o = duplexTags strands «methylation_mode» (now (bases .entry)) a b
-        (rows (length (now (seq .entry))) (length (now (mm .entry))) (length (now (ml .entry)))
-        (length (now (unconverted .entry))) (length (now (converted .entry)))
-        (length (now («first_mm» .entry))) (length (now («first_unconverted_counts» .entry))) (length (now («first_converted_counts» .entry)))
-        (length (now («second_mm» .entry))) (length (now («second_unconverted_counts» .entry))) (length (now («second_converted_counts» .entry)))) in
-        (duplexSays r ≡ onDone lengthsOf o)
-        × (now (seq .exit) ≡ leaves (λ (d : Duplexed). d .seq) o (now (seq .entry)))
-        × (now (mm .exit) ≡ leaves (λ (d : Duplexed). d .joined .text) o (now (mm .entry)))
-        × (now (ml .exit) ≡ leaves (λ (d : Duplexed). d .joined .ml) o (now (ml .entry)))
-        × (now (unconverted .exit) ≡ leaves (λ (d : Duplexed). d .unconverted) o (now (unconverted .entry)))
-        × (now (converted .exit) ≡ leaves (λ (d : Duplexed). d .converted) o (now (converted .entry)))
-        × (now («first_mm» .exit) ≡ leaves (λ (d : Duplexed). d .first .text) o (now («first_mm» .entry)))
-        × (now («first_unconverted_counts» .exit) ≡ leaves (λ (d : Duplexed). d .first .unconverted) o (now («first_unconverted_counts» .entry)))
-        × (now («first_converted_counts» .exit) ≡ leaves (λ (d : Duplexed). d .first .converted) o (now («first_converted_counts» .entry)))
-        × (now («second_mm» .exit) ≡ leaves (λ (d : Duplexed). d .second .text) o (now («second_mm» .entry)))
-        × (now («second_unconverted_counts» .exit) ≡ leaves (λ (d : Duplexed). d .second .unconverted) o (now («second_unconverted_counts» .entry)))
-        × (now («second_converted_counts» .exit) ≡ leaves (λ (d : Duplexed). d .second .converted) o (now («second_converted_counts» .entry)))) ⌝ }
+    ensures { λ r. ⌜ Duplexes strands «methylation_mode» (now (bases .entry))
+        (strand first (now («first_informative» .entry)) (now («first_unconverted» .entry)) (now («first_converted» .entry)))
+        (strand second (now («second_informative» .entry)) (now («second_unconverted» .entry)) (now («second_converted» .entry)))
+        (elevenRows (now (seq .entry)) (now (mm .entry)) (now (ml .entry)) (now (unconverted .entry)) (now (converted .entry))
+        (now («first_mm» .entry)) (now («first_unconverted_counts» .entry)) (now («first_converted_counts» .entry))
+        (now («second_mm» .entry)) (now («second_unconverted_counts» .entry)) (now («second_converted_counts» .entry)))
+        r
+        (elevenRows (now (seq .exit)) (now (mm .exit)) (now (ml .exit)) (now (unconverted .exit)) (now (converted .exit))
+        (now («first_mm» .exit)) (now («first_unconverted_counts» .exit)) (now («first_converted_counts» .exit))
+        (now («second_mm» .exit)) (now («second_unconverted_counts» .exit)) (now («second_converted_counts» .exit))) ⌝ }
 {
     let asked = measure(
         bases,

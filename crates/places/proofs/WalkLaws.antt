@@ -64,7 +64,7 @@ unfolding trackedFrom
 tracked-few b i s = omega (arith, places-length (holds b) i (drop i s), length-drop i s)
 
 -- where there are at most as many places as the bound lets pass
-pub bounded-drop : (most n : ℕ) (ps : List ℕ) → length ps < most → drop (min most n) ps ≡ drop n ps
+pub bounded-drop : (most n : ℕ) (ps : List ℕ) → length ps ≤ most → drop (min most n) ps ≡ drop n ps
 bounded-drop most n ps h =
     by-test (leb n most)
     (λ e. let small : n ≤ most = leb-true n most e in let q : min most n ≡ n = omega arith in rw q)
@@ -83,14 +83,15 @@ entry-six f places n r e =
     (λ t. let x : refused r ≡ done n = rw t at e in let z : _≡_ {A = ℕ} 0 1 = cc in absurd (omega arith))
     (λ t. rw t (rw t at e))
 
-module _ (f places : List ℕ) (few : length places ≤ 16000) (n : ℕ) (e : done n ≡ need (isNumber f) 6 (done (min 16001 (value f)))) where
+-- where the skip's bound lets pass as many places as there are
+module _ (f places : List ℕ) (most : ℕ) (few : length places ≤ most) (n : ℕ) (e : done n ≡ need (isNumber f) 6 (done (min most (value f)))) where
   is-number : isNumber f ≡ true
-  is-number = need-test (isNumber f) 6 (done (min 16001 (value f))) n (sym e)
+  is-number = need-test (isNumber f) 6 (done (min most (value f))) n (sym e)
 
   passes : drop n places ≡ drop (value f) places
   passes =
-      let q : min 16001 (value f) ≡ n = done-inj (need-rest (isNumber f) 6 (done (min 16001 (value f))) n (sym e)) in
-      rw (← q) (bounded-drop 16001 (value f) places (omega arith))
+      let q : min most (value f) ≡ n = done-inj (need-rest (isNumber f) 6 (done (min most (value f))) n (sym e)) in
+      rw (← q) (bounded-drop most (value f) places few)
 
   pub entry-seven : none ≡ firstOf (drop n places) → refuse 7 ≡ entryAt f places
   unfolding entryAt

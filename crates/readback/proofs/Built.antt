@@ -1,12 +1,12 @@
 -- One strand: over upper-case bases the reader accepts what the build calls leave in the lent rows, and lists exactly the calls of the evidence.
 -- Assumes nothing.
-use mathlib.Core.Path.{_≡_, refl, sym, ap, _∙_}
+use mathlib.Core.Path.{_≡_, sym, ap, _∙_}
 use Prim.Native.Nat.{ℕ}
-use mathlib.Core.Bool.{Bool, true, false, cond}
+use mathlib.Core.Bool.{Bool, true, false}
 use mathlib.Core.List.{List, [], _∷_}
 use lib.ListN.{length, take}
 use Rattle.lent.specs.Filled.{over}
-use Rattle.lent.specs.Outcome.{Outcome, done, onDone}
+use Rattle.lent.specs.Outcome.{done, onDone}
 use Rattle.lent.specs.declared.Tagged.the-variants as tagged
 use Rattle.lent.specs.declared.Written.the-variants as written
 use Rattle.lent.proofs.Leaves.{front-is-part}
@@ -20,9 +20,10 @@ use Rattle.samtags.specs.Building.{Evidence, buildTag}
 use Rattle.samtags.proofs.Names.{upperCase}
 use Rattle.samtags.proofs.Building.{evidenceListing, built-is-accepted}
 use Rattle.samtags.proofs.BuiltSays.{Says, built-says}
-use Rattle.building.proofs.Unique.{Built, BuiltAlone}
-use Rattle.reading.specs.Calls.{countsOf, callsRead, readCalls, groupColumn, placeColumn, startColumn}
+use Rattle.building.specs.Contracts.{Built, BuiltAlone}
+use Rattle.reading.specs.Calls.{countsOf, groupColumn, placeColumn, startColumn}
 use Rattle.reading.specs.Answers.{readingSays}
+use Rattle.reading.specs.Contracts.{ChecksTag, ReadsCalls}
 use Rattle.reading.specs.declared.Reading.{Reading}
 use Rattle.reading.specs.declared.Reading.the-variants as reading
 use Rattle.reading.proofs.Promises.{Accepted, read-calls-mean}
@@ -31,9 +32,9 @@ use Rattle.reading.proofs.Promises.{Accepted, read-calls-mean}
 pub record ReadsBack (ml? : Bool) (seq text ml : List ℕ) (ls : List Listing) : Type 0 where
   pub accepted : readTag ml? seq text ml ≡ done ls
   pub says : Says ml? seq text ml ls
-  pub checked : (r : Reading) → readingSays r ≡ onDone countsOf (readTag ml? seq text ml) → readingSays r ≡ done (countsOf ls)
+  pub checked : (r : Reading) → ChecksTag ml? seq text ml r → readingSays r ≡ done (countsOf ls)
   pub listed : (groups calls : ℕ) (gs ps ss gs′ ps′ ss′ : List ℕ)
-      → callsRead (readingSays (reading.Done groups calls)) gs′ ps′ ss′ ≡ readCalls ml? seq text ml gs ps ss
+      → ReadsCalls ml? seq text ml gs ps ss (reading.Done groups calls) gs′ ps′ ss′
       → (_≡_ {A = ℕ × ℕ} (countsOf ls) (groups, calls)) × (gs′ ≡ over (groupColumn ls) gs) × (ps′ ≡ over (placeColumn ls) ps) × (ss′ ≡ over (startColumn ls) ss)
 
 pub reads-back : (ml? : Bool) (seq text ml : List ℕ) (ls : List Listing) → readTag ml? seq text ml ≡ done ls → Says ml? seq text ml ls
@@ -41,9 +42,9 @@ pub reads-back : (ml? : Bool) (seq text ml : List ℕ) (ls : List Listing) → r
 reads-back ml? seq text ml ls e s = record {
   accepted = e;
   says = s;
-  checked = λ (r : Reading) (c : readingSays r ≡ onDone countsOf (readTag ml? seq text ml)). c ∙ ap (onDone countsOf) e;
+  checked = λ (r : Reading) (c : ChecksTag ml? seq text ml r). c ∙ ap (onDone countsOf) e;
   listed = λ (groups calls : ℕ) (gs ps ss gs′ ps′ ss′ : List ℕ)
-      (c : callsRead (readingSays (reading.Done groups calls)) gs′ ps′ ss′ ≡ readCalls ml? seq text ml gs ps ss).
+      (c : ReadsCalls ml? seq text ml gs ps ss (reading.Done groups calls) gs′ ps′ ss′).
       found groups calls gs ps ss gs′ ps′ ss′ (read-calls-mean ml? seq text ml groups calls gs ps ss gs′ ps′ ss′ c);
 }
   where
@@ -70,7 +71,7 @@ module _ (mode : MethylationMode) (p : ConversionPattern) (ev : Evidence) (seq m
       (built-says true mode p ev seq (length mm) (length ml) tag [] u is))
 
   -- `build_mm_tag_no_ml` answered Done: without an ML the same calls, with no values
-  pub built-alone-reads-back : (t : ℕ) (mm′ lent : List ℕ) → BuiltAlone mode p ev seq mm ml (written.Done t) mm′
+  pub built-alone-reads-back : (t : ℕ) (mm′ lent : List ℕ) → BuiltAlone mode p ev seq mm (written.Done t) mm′
       → ReadsBack false seq (take t mm′) lent (evidenceListing false mode p ev seq ∷ [])
   built-alone-reads-back t mm′ lent b =
       let o = buildTag false mode p ev seq (length mm) 0 in

@@ -31,7 +31,7 @@ use Rattle.duplex.specs.declared.Lengths.{Lengths as Filled}
 use Rattle.duplex.specs.declared.Duplex.the-variants as duplex
 use Rattle.duplex.proofs.Admitted.{passed}
 use Rattle.duplex.proofs.Pieces.{Known, known, one-or-two, seq-is}
-use Rattle.duplex.proofs.Unique.{Rows, lengthsLent, Duplexes}
+use Rattle.duplex.specs.Contracts.{Rows, lengthsLent, Duplexes}
 use Rattle.readback.proofs.Built.{ReadsBack, reads-back}
 
 -- ---- restoring keeps upper case
@@ -97,10 +97,9 @@ module _ (count : ℕ) (mode : MethylationMode) (bases : List ℕ) (a b : Strand
       let ss = strandsOf (eqb count 2) a b in
       let o = duplexTags count mode bases a b (lengthsLent lent) in
       let (is, sizes, k) = came-to f l c in
-      let rows = c .1 in
-      let seq-row = front-is-part (λ (d : Duplexed). d .seq) o d (lent .seq) (l .seq) (f .seq) is (ap (λ (r : Rows). r .seq) rows) (sym (ap (λ (n : Filled). n .seq) sizes)) in
-      let mm-row = front-is-part (λ (d : Duplexed). d .joined .text) o d (lent .mm) (l .mm) (f .mm) is (ap (λ (r : Rows). r .mm) rows) (sym (ap (λ (n : Filled). n .mm) sizes)) in
-      let ml-row = front-is-part (λ (d : Duplexed). d .joined .ml) o d (lent .ml) (l .ml) (f .ml) is (ap (λ (r : Rows). r .ml) rows) (sym (ap (λ (n : Filled). n .ml) sizes)) in
+      let seq-row = front-is-part (λ (d : Duplexed). d .seq) o d (lent .seq) (l .seq) (f .seq) is (c .1) (sym (ap (λ (n : Filled). n .seq) sizes)) in
+      let mm-row = front-is-part (λ (d : Duplexed). d .joined .text) o d (lent .mm) (l .mm) (f .mm) is (c .2) (sym (ap (λ (n : Filled). n .mm) sizes)) in
+      let ml-row = front-is-part (λ (d : Duplexed). d .joined .ml) o d (lent .ml) (l .ml) (f .ml) is (c .3) (sym (ap (λ (n : Filled). n .ml) sizes)) in
       let seq = restoredBy ss bases in
       let up : upperCase seq ≡ true = restored-by-upper ss bases u in
       let group : isEmpty (joinedGroups mode ss seq) ≡ false =
@@ -135,7 +134,7 @@ module _ (count : ℕ) (mode : MethylationMode) (bases : List ℕ) (a b : Strand
       let d = duplexed (eqb count 2) mode bases a b in
       let (is, sizes, k) = came-to f l c in
       let row = front-is-part (λ (d : Duplexed). d .first .text) (duplexTags count mode bases a b (lengthsLent lent)) d (lent .firstMm) (l .firstMm) (f .«first_mm») is
-      (ap (λ (r : Rows). r .firstMm) (c .1)) (sym (ap (λ (n : Filled). n .«first_mm») sizes)) in
+      (c .6) (sym (ap (λ (n : Filled). n .«first_mm») sizes)) in
       rw row (own-reads-back a k u ml (omega (arith, some, ap (λ (n : Filled). n .«first_mm») sizes)))
 
   pub second-reads-back : (f : Filled) (l : Rows) → Duplexes count mode bases a b lent (duplex.Done f) l → upperCase bases ≡ true → (ml : List ℕ) → eqb count 2 ≡ true
@@ -149,5 +148,5 @@ module _ (count : ℕ) (mode : MethylationMode) (bases : List ℕ) (a b : Strand
       let (is, sizes, k) = came-to f l c in
       let text : d .second .text ≡ ownTag mode (b .pattern) (b .evidence) seq .text = ap (λ (t : Bool). cond t (strandTags mode seq b) noTags .text) two in
       let row = front-is-part (λ (d : Duplexed). d .second .text) (duplexTags count mode bases a b (lengthsLent lent)) d (lent .secondMm) (l .secondMm) (f .«second_mm») is
-      (ap (λ (r : Rows). r .secondMm) (c .1)) (sym (ap (λ (n : Filled). n .«second_mm») sizes)) in
+      (c .9) (sym (ap (λ (n : Filled). n .«second_mm») sizes)) in
       rw (row ∙ text) (own-reads-back b k u ml (omega (arith, some, ap (λ (n : Filled). n .«second_mm») sizes, ap (λ (t : List ℕ). length t) text)))

@@ -17,7 +17,7 @@ use Rattle.samtags.proofs.Longest.{allSeen, two-strands-length}
 use Rattle.duplex.specs.Duplex.{restoredBy, duplexed}
 use Rattle.duplex.specs.declared.Lengths.{Lengths}
 use Rattle.duplex.specs.declared.Duplex.the-variants as duplex
-use Rattle.duplex.proofs.Unique.{Rows, Duplexes}
+use Rattle.duplex.specs.Contracts.{Rows, Duplexes}
 use Rattle.readback.proofs.Joined.{came-to}
 
 -- where SEQ shows C there is nothing to restore

@@ -1,3 +1,6 @@
 pub mod Orders
 pub mod Unique
+pub mod Cited
+pub mod Numbers
 pub mod Promises
+pub mod Examples

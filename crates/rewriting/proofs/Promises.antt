@@ -1,5 +1,5 @@
 -- What the code promises of meaning, from its contracts: an edited tag is never longer than what came in, and read again it lists what was listed less what
--- went, every other call on its base with its values.
+-- went, every other call on its base with its values. Each theorem takes the call's contract, where it answered Done.
 -- Assumes nothing.
 use mathlib.Core.Path.{_∙_, _≡_, ap, refl, sym}
 use Prim.Native.Nat.{_+_, _<_, _≤_, ℕ}
@@ -12,9 +12,10 @@ use lib.ListN.{drop, length, take}
 use borrow.Author.Tests.{ne-eqb}
 use Rattle.editing.specs.Rewrote.{Rewrote, leavesTag, rewrote, sizesWith, valuesWith}
 use Rattle.lent.proofs.Leaves.{front-is-part}
-use Rattle.lent.proofs.Outcome.{and-then-inv, done-inj, need-rest, on-done-inv}
+use Rattle.lent.proofs.Outcome.{and-then-inv, done-inj, need-rest, need-test, on-done-inv}
+use Rattle.lent.proofs.Tests.{and-true-r}
 use Rattle.lent.specs.Outcome.{Outcome, done, need, tagSays}
-use Rattle.samtags.proofs.Kept.{callsInWindow, cut-keeps-the-others, drop-keeps-the-others, withoutCallsAt}
+use Rattle.samtags.proofs.Kept.{callsHeldIn, callsInWindow, cut-keeps-the-held, cut-keeps-the-others, drop-keeps-the-others, withoutCallsAt}
 use Rattle.samtags.proofs.Length.{never-longer}
 use Rattle.samtags.proofs.Masking.{differsByN, mask-keeps-the-others, thenLists, unmaskedCalls}
 use Rattle.samtags.specs.Edits.{Edit, cutTag, cutTo, dropFromTag, droppingAt, edited, inRoom, liesIn, maskTag, maskedTo, sameBytes, windowStart, withStart}
@@ -23,6 +24,9 @@ use Rattle.samtags.specs.Session.{window}
 use Rattle.samtags.specs.Spots.{Listing}
 use Rattle.samtags.specs.Writing.{Tag}
 use Rattle.lent.specs.declared.Tagged.the-variants as tagged
+use Rattle.rewriting.specs.Contracts.{Drops, Masks, Trims}
+use Rattle.rewriting.specs.Starts.{startSays}
+use Rattle.rewriting.specs.declared.WindowStart.{WindowStart}
 
 -- what a call that answered Done made and left
 pub record Made (ml? : Bool) (o : Outcome Tag) (t m : ℕ) (mm′ ml′ : List ℕ) (r : Tag) : Type 0 where
@@ -73,10 +77,6 @@ known-start start before after a lo h s q =
     cc
 
 module _ (ml? : Bool) (mm ml mm-out ml-out : List ℕ) (t m : ℕ) (mm′ ml′ : List ℕ) where
-  -- a call that comes to o answered Done and left these rows
-  abbrev pub Left : Outcome Tag → Type 0
-  Left o = rewrote (tagSays (tagged.Done t m)) mm′ ml′ ≡ leavesTag ml? o mm-out ml-out
-
   -- never longer than what came in
   abbrev pub NoLonger : Type 0
   NoLonger = (t ≤ length mm) × (m ≤ length (cond ml? ml []))
@@ -89,7 +89,7 @@ module _ (ml? : Bool) (mm ml mm-out ml-out : List ℕ) (t m : ℕ) (mm′ ml′ 
   -- ---- masking
 
   module _ (before after : List ℕ) where
-    abbrev pub masks : Outcome Tag
+    abbrev masks : Outcome Tag
     masks = maskTag ml? before after mm ml (length mm-out) (length ml-out)
 
     mask-edited : (r : Tag) → masks ≡ done r → edited (maskedTo after) ml? before mm ml ≡ done r
@@ -98,14 +98,14 @@ module _ (ml? : Bool) (mm ml mm-out ml-out : List ℕ) (t m : ℕ) (mm′ ml′ 
         let rest = need-rest (inDomain ml? before mm ml && leb (length after) 16000) 1 _ r e in
         roomed ml? (length mm-out) (length ml-out) (edited (maskedTo after) ml? before mm ml) r (need-rest (eqb (length before) (length after)) 2 _ r rest)
 
-    pub masked-no-longer : Left masks → NoLonger
+    pub masked-no-longer : Masks ml? before after mm ml mm-out ml-out (tagged.Done t m) mm′ ml′ → NoLonger
     masked-no-longer l =
         let (r, d) = made ml? masks t m mm-out ml-out mm′ ml′ l in
         shorter (maskedTo after) before masks r d (mask-edited r (d .came))
 
     -- Where after differs from before only by N, every call whose base is not masked is read at its place with its values.
-    pub masked-lists : (ls : List Listing) → lists ml? before mm ml ≡ done ls → differsByN before after ≡ true → Left masks
-        → lists ml? after (take t mm′) (take m ml′) ≡ done (map (unmaskedCalls after) ls)
+    pub masked-lists : (ls : List Listing) → lists ml? before mm ml ≡ done ls → differsByN before after ≡ true
+        → Masks ml? before after mm ml mm-out ml-out (tagged.Done t m) mm′ ml′ → lists ml? after (take t mm′) (take m ml′) ≡ done (map (unmaskedCalls after) ls)
     masked-lists ls e d l =
         let (r, made-r) = made ml? masks t m mm-out ml-out mm′ ml′ l in
         let kept = mask-keeps-the-others ml? before after mm ml ls (take m ml′) e d in
@@ -116,7 +116,7 @@ module _ (ml? : Bool) (mm ml mm-out ml-out : List ℕ) (t m : ℕ) (mm′ ml′ 
   -- ---- dropping
 
   module _ (seq places : List ℕ) where
-    abbrev pub drops : Outcome Tag
+    abbrev drops : Outcome Tag
     drops = dropFromTag ml? seq places mm ml (length mm-out) (length ml-out)
 
     drop-edited : (r : Tag) → drops ≡ done r → edited (droppingAt places) ml? seq mm ml ≡ done r
@@ -124,13 +124,13 @@ module _ (ml? : Bool) (mm ml mm-out ml-out : List ℕ) (t m : ℕ) (mm′ ml′ 
     drop-edited r e =
         roomed ml? (length mm-out) (length ml-out) (edited (droppingAt places) ml? seq mm ml) r (need-rest (inDomain ml? seq mm ml) 1 _ r e)
 
-    pub dropped-no-longer : Left drops → NoLonger
+    pub dropped-no-longer : Drops ml? seq places mm ml mm-out ml-out (tagged.Done t m) mm′ ml′ → NoLonger
     dropped-no-longer l =
         let (r, d) = made ml? drops t m mm-out ml-out mm′ ml′ l in
         shorter (droppingAt places) seq drops r d (drop-edited r (d .came))
 
     -- Every other call is read at its place with its values.
-    pub dropped-lists : (ls : List Listing) → lists ml? seq mm ml ≡ done ls → Left drops
+    pub dropped-lists : (ls : List Listing) → lists ml? seq mm ml ≡ done ls → Drops ml? seq places mm ml mm-out ml-out (tagged.Done t m) mm′ ml′
         → lists ml? seq (take t mm′) (take m ml′) ≡ done (map (withoutCallsAt places) ls)
     dropped-lists ls e l =
         let (r, d) = made ml? drops t m mm-out ml-out mm′ ml′ l in
@@ -139,39 +139,54 @@ module _ (ml? : Bool) (mm ml mm-out ml-out : List ℕ) (t m : ℕ) (mm′ ml′ 
 
   -- ---- cutting
 
-  module _ (start : Option ℕ) (before after : List ℕ) where
-    abbrev pub cuts : Outcome Tag
-    cuts = cutTag ml? start before after mm ml (length mm-out) (length ml-out)
+  module _ (start : WindowStart) (before after : List ℕ) where
+    abbrev cuts : Outcome Tag
+    cuts = cutTag ml? (startSays start) before after mm ml (length mm-out) (length ml-out)
 
-    -- where the window starts, and the edit
-    cut-edited : (r : Tag) → cuts ≡ done r → (lo : ℕ) × (windowStart start before after ≡ some lo) × (edited (cutTo lo after) ml? before mm ml ≡ done r)
+    -- where the window starts, that it is one, and the edit
+    cut-edited : (r : Tag) → cuts ≡ done r → (lo : ℕ) × (windowStart (startSays start) before after ≡ some lo) × (liesIn after (drop lo before) ≡ true)
+        × (edited (cutTo lo after) ml? before mm ml ≡ done r)
     unfolding cutTag
     cut-edited r e =
         let two = need-rest (inDomain ml? before mm ml && leb (length after) 16000) 1 _ r e in
-        from (windowStart start before after) refl (need-rest (not (sameBytes before after)) 21 _ r two)
+        from (windowStart (startSays start) before after) refl (need-rest (not (sameBytes before after)) 21 _ r two)
       where
-        from : (w : Option ℕ) → windowStart start before after ≡ w
+        from : (w : Option ℕ) → windowStart (startSays start) before after ≡ w
             → withStart w (λ lo. need (leb lo (length before) && liesIn after (drop lo before)) 11
             (inRoom ml? (length mm-out) (length ml-out) (edited (cutTo lo after) ml? before mm ml))) ≡ done r
-            → (lo : ℕ) × (windowStart start before after ≡ some lo) × (edited (cutTo lo after) ml? before mm ml ≡ done r)
+            → (lo : ℕ) × (windowStart (startSays start) before after ≡ some lo) × (liesIn after (drop lo before) ≡ true)
+            × (edited (cutTo lo after) ml? before mm ml ≡ done r)
         from none q z = let y : _≡_ {A = ℕ} 0 1 = cc in absurd (omega arith)
         from (some lo) q z =
+            let inside = need-test (leb lo (length before) && liesIn after (drop lo before)) 11 _ r z in
             let rest = need-rest (leb lo (length before) && liesIn after (drop lo before)) 11 _ r z in
-            (lo, q, roomed ml? (length mm-out) (length ml-out) (edited (cutTo lo after) ml? before mm ml) r rest)
+            (lo, q, and-true-r (leb lo (length before)) (liesIn after (drop lo before)) inside, roomed ml? (length mm-out) (length ml-out) (edited (cutTo lo after) ml? before mm ml) r rest)
 
-    pub cut-no-longer : Left cuts → NoLonger
+    pub cut-no-longer : Trims ml? start before after mm ml mm-out ml-out (tagged.Done t m) mm′ ml′ → NoLonger
     cut-no-longer l =
         let (r, d) = made ml? cuts t m mm-out ml-out mm′ ml′ l in
-        let (lo, w, is) = cut-edited r (d .came) in
+        let (lo, w, lies, is) = cut-edited r (d .came) in
         shorter (cutTo lo after) before cuts r d is
 
-    -- Where n bases from place a on are what is left, unmasked and fewer than there were, every call inside is read on its base with its values.
-    pub cut-lists : (a n : ℕ) (ls : List Listing) → lists ml? before mm ml ≡ done ls → start ≡ some a → after ≡ window a n before → a + n ≤ length before
-        → length after < length before → Left cuts → lists ml? after (take t mm′) (take m ml′) ≡ done (map (callsInWindow a n) ls)
-    cut-lists a n ls e s w fits less l =
+    -- Every window that the call takes begins at a known place, and every call whose base is still held in it is read on its base with its values: those
+    -- outside go, and those on masked bases, but a group on any base keeps these.
+    pub cut-lists : (ls : List Listing) → lists ml? before mm ml ≡ done ls → Trims ml? start before after mm ml mm-out ml-out (tagged.Done t m) mm′ ml′
+        → (lo : ℕ) × (windowStart (startSays start) before after ≡ some lo)
+        × (lists ml? after (take t mm′) (take m ml′) ≡ done (map (callsHeldIn lo after) ls))
+    cut-lists ls e l =
         let (r, d) = made ml? cuts t m mm-out ml-out mm′ ml′ l in
-        let (lo, q, is) = cut-edited r (d .came) in
-        let same : a ≡ lo = known-start start before after a lo less s q in
+        let (lo, q, lies, is) = cut-edited r (d .came) in
+        let reads = cut-keeps-the-held ml? before mm ml ls e (take m ml′) lo after r lies is in
+        (lo, q, rw (d .text) (ap (lists ml? after (r .text)) (sym (values-lent ml? r (take m ml′) (d .ml))) ∙ reads))
+
+    -- Where n bases from place a on are what is left, unmasked and fewer than there were, that is every call inside.
+    pub clean-cut-lists : (a n : ℕ) (ls : List Listing) → lists ml? before mm ml ≡ done ls → startSays start ≡ some a → after ≡ window a n before
+        → a + n ≤ length before → length after < length before → Trims ml? start before after mm ml mm-out ml-out (tagged.Done t m) mm′ ml′
+        → lists ml? after (take t mm′) (take m ml′) ≡ done (map (callsInWindow a n) ls)
+    clean-cut-lists a n ls e s w fits less l =
+        let (r, d) = made ml? cuts t m mm-out ml-out mm′ ml′ l in
+        let (lo, q, lies, is) = cut-edited r (d .came) in
+        let same : a ≡ lo = known-start (startSays start) before after a lo less s q in
         let cut : edited (cutTo a (window a n before)) ml? before mm ml ≡ done r = rw (← w, same) is in
         let reads : lists ml? (window a n before) (r .text) (cond ml? (r .ml) (take m ml′)) ≡ done (map (callsInWindow a n) ls) =
         cut-keeps-the-others ml? before mm ml ls e (take m ml′) a n r fits cut in

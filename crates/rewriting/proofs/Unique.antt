@@ -4,14 +4,12 @@ use mathlib.Core.Path.{_≡_, ap}
 use Prim.Native.Nat.{ℕ}
 use mathlib.Core.Bool.{Bool}
 use mathlib.Core.List.{List}
-use lib.ListN.{length}
+use Rattle.editing.specs.Rewrote.{Rewrote, rewrote}
 use Rattle.lent.proofs.Filled.{settled}
 use Rattle.lent.proofs.Outcome.{tag-says-inj}
-use Rattle.samtags.specs.Edits.{cutTag, dropFromTag, maskTag}
 use Rattle.lent.specs.Outcome.{tagSays}
-use Rattle.editing.specs.Rewrote.{Rewrote, leavesTag, rewrote}
 use Rattle.lent.specs.declared.Tagged.{Tagged}
-use Rattle.rewriting.specs.Starts.{startSays}
+use Rattle.rewriting.specs.Contracts.{Drops, Masks, Trims}
 use Rattle.rewriting.specs.declared.WindowStart.{WindowStart}
 
 -- whatever the call leaves
@@ -22,20 +20,14 @@ rewrote-unique o r s t u v w p q =
     (tag-says-inj r s (ap (λ (x : Rewrote). x .answer) same), ap (λ (x : Rewrote). x .text) same, ap (λ (x : Rewrote). x .ml) same)
 
 module _ (ml? : Bool) (mm ml mm-out ml-out : List ℕ) (r s : Tagged) (t u v w : List ℕ) where
-  pub drop-masked-modifications-unique : (before after : List ℕ)
-      → rewrote (tagSays r) t v ≡ leavesTag ml? (maskTag ml? before after mm ml (length mm-out) (length ml-out)) mm-out ml-out
-      → rewrote (tagSays s) u w ≡ leavesTag ml? (maskTag ml? before after mm ml (length mm-out) (length ml-out)) mm-out ml-out
-      → (r ≡ s) × (t ≡ u) × (v ≡ w)
+  pub drop-masked-modifications-unique : (before after : List ℕ) → Masks ml? before after mm ml mm-out ml-out r t v
+      → Masks ml? before after mm ml mm-out ml-out s u w → (r ≡ s) × (t ≡ u) × (v ≡ w)
   drop-masked-modifications-unique before after = rewrote-unique _ r s t u v w
 
-  pub drop-modifications-at-unique : (seq places : List ℕ)
-      → rewrote (tagSays r) t v ≡ leavesTag ml? (dropFromTag ml? seq places mm ml (length mm-out) (length ml-out)) mm-out ml-out
-      → rewrote (tagSays s) u w ≡ leavesTag ml? (dropFromTag ml? seq places mm ml (length mm-out) (length ml-out)) mm-out ml-out
-      → (r ≡ s) × (t ≡ u) × (v ≡ w)
+  pub drop-modifications-at-unique : (seq places : List ℕ) → Drops ml? seq places mm ml mm-out ml-out r t v
+      → Drops ml? seq places mm ml mm-out ml-out s u w → (r ≡ s) × (t ≡ u) × (v ≡ w)
   drop-modifications-at-unique seq places = rewrote-unique _ r s t u v w
 
-  pub trim-clipped-modifications-unique : (before after : List ℕ) (start : WindowStart)
-      → rewrote (tagSays r) t v ≡ leavesTag ml? (cutTag ml? (startSays start) before after mm ml (length mm-out) (length ml-out)) mm-out ml-out
-      → rewrote (tagSays s) u w ≡ leavesTag ml? (cutTag ml? (startSays start) before after mm ml (length mm-out) (length ml-out)) mm-out ml-out
-      → (r ≡ s) × (t ≡ u) × (v ≡ w)
+  pub trim-clipped-modifications-unique : (before after : List ℕ) (start : WindowStart) → Trims ml? start before after mm ml mm-out ml-out r t v
+      → Trims ml? start before after mm ml mm-out ml-out s u w → (r ≡ s) × (t ≡ u) × (v ≡ w)
   trim-clipped-modifications-unique before after start = rewrote-unique _ r s t u v w

@@ -10,12 +10,10 @@ ghost use mathlib.Core.Path.{_≡_};
 ghost use mathlib.Core.Bool.{true};
 ghost use Prim.Native.Nat.{_≤_};
 ghost use lib.ListN.{length};
-ghost use Rattle.samtags.specs.Edits.{maskTag, dropFromTag, cutTag};
 ghost use Rattle.samtags.specs.Reading.{inDomain};
 ghost use Rattle.changing.specs.Windows.{Unmarked};
-ghost use Rattle.lent.specs.Outcome.{tagSays};
-ghost use Rattle.editing.specs.Rewrote.{rewrote, leavesTag};
 ghost use Rattle.rewriting.specs.Starts.{startSays, startOf};
+ghost use Rattle.rewriting.specs.Contracts.{Masks, Drops, Trims};
 use lent::Refusal;
 use lent::Tagged;
 
@@ -37,11 +35,8 @@ pub fn drop_masked_modifications(
     mm_out: &mut [u8],
     ml_out: &mut [u8],
 ) -> Tagged
-    ensures { λ r. ⌜ rewrote (tagSays r) (now («mm_out» .exit)) (now («ml_out» .exit))
-        ≡ leavesTag «has_ml»
-        (maskTag «has_ml» (now (before .entry)) (now (after .entry)) (now (mm .entry)) (now (ml .entry))
-        (length (now («mm_out» .entry))) (length (now («ml_out» .entry))))
-        (now («mm_out» .entry)) (now («ml_out» .entry)) ⌝ }
+    ensures { λ r. ⌜ Masks «has_ml» (now (before .entry)) (now (after .entry)) (now (mm .entry)) (now (ml .entry))
+        (now («mm_out» .entry)) (now («ml_out» .entry)) r (now («mm_out» .exit)) (now («ml_out» .exit)) ⌝ }
 {
     let fits = editing::in_domain(before, mm, ml, has_ml);
     if !fits {
@@ -70,11 +65,8 @@ fn drop_with(
 ) -> Tagged
     requires { ⌜ (inDomain «has_ml» (now seq) (now mm) (now ml) ≡ true)
         × (length (now seq) ≤ length (now marks)) × Unmarked (length (now marks)) (now marks) ⌝ }
-    ensures { λ r. ⌜ rewrote (tagSays r) (now («mm_out» .exit)) (now («ml_out» .exit))
-        ≡ leavesTag «has_ml»
-        (dropFromTag «has_ml» (now (seq .entry)) (now (places .entry)) (now (mm .entry)) (now (ml .entry))
-        (length (now («mm_out» .entry))) (length (now («ml_out» .entry))))
-        (now («mm_out» .entry)) (now («ml_out» .entry)) ⌝ }
+    ensures { λ r. ⌜ Drops «has_ml» (now (seq .entry)) (now (places .entry)) (now (mm .entry)) (now (ml .entry))
+        (now («mm_out» .entry)) (now («ml_out» .entry)) r (now («mm_out» .exit)) (now («ml_out» .exit)) ⌝ }
 {
     changing::mark_places(places, marks, 1);
     editing::edit_tag(seq, seq, marks, mm, ml, 0, has_ml, mm_out, ml_out)
@@ -92,11 +84,8 @@ pub fn drop_modifications_at(
     mm_out: &mut [u8],
     ml_out: &mut [u8],
 ) -> Tagged
-    ensures { λ r. ⌜ rewrote (tagSays r) (now («mm_out» .exit)) (now («ml_out» .exit))
-        ≡ leavesTag «has_ml»
-        (dropFromTag «has_ml» (now (seq .entry)) (now (places .entry)) (now (mm .entry)) (now (ml .entry))
-        (length (now («mm_out» .entry))) (length (now («ml_out» .entry))))
-        (now («mm_out» .entry)) (now («ml_out» .entry)) ⌝ }
+    ensures { λ r. ⌜ Drops «has_ml» (now (seq .entry)) (now (places .entry)) (now (mm .entry)) (now (ml .entry))
+        (now («mm_out» .entry)) (now («ml_out» .entry)) r (now («mm_out» .exit)) (now («ml_out» .exit)) ⌝ }
 {
     let fits = editing::in_domain(seq, mm, ml, has_ml);
     if !fits {
@@ -133,11 +122,8 @@ pub fn trim_clipped_modifications(
     mm_out: &mut [u8],
     ml_out: &mut [u8],
 ) -> Tagged
-    ensures { λ r. ⌜ rewrote (tagSays r) (now («mm_out» .exit)) (now («ml_out» .exit))
-        ≡ leavesTag «has_ml»
-        (cutTag «has_ml» (startSays start) (now (before .entry)) (now (after .entry)) (now (mm .entry)) (now (ml .entry))
-        (length (now («mm_out» .entry))) (length (now («ml_out» .entry))))
-        (now («mm_out» .entry)) (now («ml_out» .entry)) ⌝ }
+    ensures { λ r. ⌜ Trims «has_ml» start (now (before .entry)) (now (after .entry)) (now (mm .entry)) (now (ml .entry))
+        (now («mm_out» .entry)) (now («ml_out» .entry)) r (now («mm_out» .exit)) (now («ml_out» .exit)) ⌝ }
 {
     let fits = editing::in_domain(before, mm, ml, has_ml);
     if !fits {

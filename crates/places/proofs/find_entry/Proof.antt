@@ -13,7 +13,7 @@ use Rattle.numbers.specs.Answers.{skipRefusal, skipSays}
 use Rattle.places.specs.Walk.{trackedFrom}
 use Rattle.places.proofs.find_entry.Tie as tie
 
--- SEQ holds no more bases than the skip's bound lets pass
+-- SEQ holds no more bases than its domain
 few : (s : tie.Start) → length (trackedFrom (s .args .base) (s .args .from .0) (s .args .seq .now)) ≤ 16000
 few s = omega (arith, s .pre, tracked-few (s .args .base) (s .args .from .0) (s .args .seq .now))
 
@@ -51,7 +51,7 @@ returns-2 c =
     let a = c .before .before .before .before .before .before .before .before .before .args in
     let g = c .before .before .before .before .read .given in
     entry-seven (a .field .now) (trackedFrom (a .base) (a .from .0) (a .seq .now))
-    (few (c .before .before .before .before .before .before .before .before .before)) (g .0 .0)
+    _ (omega (arith, few (c .before .before .before .before .before .before .before .before .before))) (g .0 .0)
     (sym (ap skipSays (g .1)) ∙ c .before .before .before .before .before .before .read-skip .ensures)
     (sym (ap foundSays (c .enum-told2 .given .1)) ∙ c .before .before .next-tracked .ensures)
 
@@ -61,7 +61,7 @@ returns-3 c =
     let g = c .before .before .before .before .before .read .given in
     let p = c .before .found .given in
     entry-on (a .field .now) (trackedFrom (a .base) (a .from .0) (a .seq .now))
-    (few (c .before .before .before .before .before .before .before .before .before .before)) (g .0 .0)
+    _ (omega (arith, few (c .before .before .before .before .before .before .before .before .before .before))) (g .0 .0)
     (sym (ap skipSays (g .1)) ∙ c .before .before .before .before .before .before .before .read-skip .ensures) (p .0 .0 .0)
     (sym (ap foundSays (p .1)) ∙ c .before .before .before .next-tracked .ensures)
 

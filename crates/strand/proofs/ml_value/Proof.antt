@@ -1,5 +1,6 @@
 -- `ml_value`: the floor, and 255 above it.
 -- Assumes nothing.
+use Prim.Native.Nat.{_*_, _/_, _<_, _≤_}
 use native.Mathlib.Omega.{arith}
 use borrow.Author.Needs.{needs}
 use Rattle.samtags.specs.Building.{mlValue}
@@ -19,7 +20,10 @@ div-scaled c = search needs
 -- src/lib.rt:58:9
 returns : tie.Need-returns
 unfolding mlValue
-returns c = omega arith
+returns c =
+    let a = c .before .args in
+    let above : 255 < 256 * a .speaking / a .total = c .if1 .taken in
+    omega arith
 
 -- src/lib.rt:60:5
 cast-result : tie.Need-cast-result
@@ -28,7 +32,10 @@ cast-result c = search needs
 -- src/lib.rt:52:1
 returns-2 : tie.Need-returns-2
 unfolding mlValue
-returns-2 c = omega arith
+returns-2 c =
+    let a = c .before .args in
+    let below : 256 * a .speaking / a .total ≤ 255 = c .if1 .left in
+    omega arith
 
 pub ml-value-spec : {M : Type 1} → statement M
 ml-value-spec = tie.close (tie.spec mul-scaled div-scaled returns cast-result returns-2)
