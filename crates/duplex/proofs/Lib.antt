@@ -4,3 +4,4 @@ pub mod Roomy
 pub mod Unique
 pub mod Cited
 pub mod Numbers
+pub mod Refused

@@ -4,3 +4,4 @@ pub mod Cited
 pub mod Numbers
 pub mod Promises
 pub mod Examples
+pub mod Refused
