@@ -139,9 +139,11 @@ put-digits-returns-2 : (t : ℕ) → put-digits-lts.Need-returns-2 (
 put-digits-returns-2 t c =
     let a = c .before .before .before .before .before .before .before .before .before .before .args in
     let first = c .before .before .before .before .before .before .put-digits in
+    let last = c .before .before .put2 in
+    let digit : last .last .0 ≡ set (first .last .0) (first .result) (48 + a .n % 10) = last .ensures in
     let big : 10 ≤ a .n = omega arith in (
       omega (arith, length-more (a .n) big, first .ensures),
-      c .before .before .put2 .ensures
+      digit
           ∙ ap (λ (m : List ℕ). set m (first .result) (48 + a .n % 10)) (first .ensures .1)
           ∙ sets-snoc (a .out .now) (a .at) (digits (a .n / 10)) (48 + a .n % 10) (first .result) (first .ensures .0)
           ∙ ap (sets (a .out .now) (a .at)) (sym (digits-more (a .n) big)),
