@@ -1,8 +1,9 @@
 -- What the code promises of meaning, from its contracts: a tag that `check_tag` accepts and that `read_calls` lists says what SAMtags says, a tag that
 -- SAMtags gives a meaning is accepted with exactly its calls, and `tally` counts the values of the calls.
 -- Assumes nothing.
-use mathlib.Core.Path.{_≡_, ap, sym, _∙_}
+use mathlib.Core.Path.{_≡_, refl, ap, sym, _∙_}
 use Prim.Native.Nat.{ℕ, _+_, _≤_}
+use native.Mathlib.Omega.{arith}
 use mathlib.Core.Bool.{Bool, true, cond, _&&_}
 use mathlib.Core.List.{List, [], _∷_, map}
 use lib.Dec.{leb}
@@ -13,13 +14,17 @@ use Rattle.lent.proofs.Outcome.{and-then-inv, done-inj, need-rest, on-done-inv}
 use Rattle.lent.specs.Filled.{leaves, over}
 use Rattle.lent.specs.Lists.{every}
 use Rattle.lent.specs.Outcome.{Outcome, done, onDone}
+use Rattle.samtags.proofs.CanBeMet.{worked, workedCalls, workedML, worked-means}
+use Rattle.samtags.proofs.Examples.{cs}
 use Rattle.samtags.proofs.MeantIsRead.{listingsOf, meant-is-accepted, noneOnU, spelled-is-meant}
 use Rattle.samtags.proofs.Names.{upperCase}
 use Rattle.samtags.proofs.ReadMeans.{Read-means, callsOf, noU, reading-means}
 use Rattle.samtags.proofs.Tally.{allCalls, tallyCalls, tally-counts-all, tally-is-a-fold}
+use Rattle.samtags.specs.Bytes.{ascii}
 use Rattle.samtags.specs.Reading.{Tally, callList, inDomain, lists, readTag, tallyOf, tallyTag}
 use Rattle.samtags.specs.Samtags.{Spelled, TagMeans, isSpelling, meaningOf, pieceOf, spelled}
 use Rattle.samtags.specs.Spots.{Call, Listing}
+use Rattle.samtags.specs.Text.{baseOf}
 use Rattle.reading.specs.Answers.{readingSays}
 use Rattle.reading.specs.Calls.{CallsRead, countsOf, groupColumn, listedCalls, placeColumn, readCalls, startColumn}
 use Rattle.reading.specs.Contracts.{ChecksTag, ReadsCalls, Tallies}
@@ -164,3 +169,25 @@ tally-means seq text ml above below e =
       counted ∙ tally-is-a-fold seq text ml (i .0) read,
       ap (λ (t : Tally). t .above + t .below) counted ∙ tally-counts-all ml,
     )
+
+-- ---- SAMtags' own example, `C+m,5,12,0;` on twenty Cs: all that these promises ask for holds of it together
+
+abbrev fours : List ℕ
+fours = 4 ∷ 4 ∷ 4 ∷ 4 ∷ []
+
+-- whatever `read_calls` answers and leaves in columns of four 4s
+pub worked-calls : (r : Reading) (gs′ ps′ ts′ : List ℕ) → ReadsCalls true cs (ascii "C+m,5,12,0;") workedML fours fours fours r gs′ ps′ ts′
+    → (readingSays r ≡ done (1, 3)) × (gs′ ≡ 1 ∷ 1 ∷ 1 ∷ 4 ∷ []) × (ps′ ≡ 5 ∷ 18 ∷ 19 ∷ 4 ∷ []) × (ts′ ≡ 0 ∷ 1 ∷ 2 ∷ 4 ∷ [])
+unfolding isSpelling baseOf callList over
+worked-calls r gs′ ps′ ts′ e =
+    read-calls-lists true cs worked [] workedML (workedCalls ∷ []) refl refl refl worked-means refl fours fours fours r gs′ ps′ ts′
+    (omega arith) (omega arith) (omega arith) e
+
+worked-checked : ChecksTag true cs (ascii "C+m,5,12,0;") workedML (reading.Done 1 3)
+unfolding readTag callList
+worked-checked = refl
+
+pub worked-meant : (css : List (List Call)) × TagMeans cs workedML (map (meaningOf true) (worked ∷ [])) css
+    × (_≡_ {A = ℕ × ℕ} (countsOf (listingsOf (worked ∷ []) css)) (1, 3))
+unfolding isSpelling baseOf
+worked-meant = check-tag-is-meant true cs (worked ∷ []) workedML refl refl refl 1 3 worked-checked

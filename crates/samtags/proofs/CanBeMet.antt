@@ -1,25 +1,27 @@
 -- What the promises ask for can be met: each is applied to a worked tag, so that all of its hypotheses hold together.
 -- Assumes nothing.
 use mathlib.Core.Path.{_≡_, refl}
-use Prim.Native.Nat.{ℕ, zero, suc, _+_, _*_, _≤_, _<_}
+use Prim.Native.Nat.{ℕ, zero, suc, _*_, _<_}
 use native.Mathlib.Omega.{arith}
 use mathlib.Core.Bool.{true}
 use mathlib.Core.List.{List, [], _∷_, map}
 use lib.ListN.{getD, take, drop}
 use lib.Dec.{lit<}
+use Rattle.lent.specs.Lists.{every}
 use Rattle.lent.specs.Outcome.{done}
 use Rattle.pattern.specs.Case.{upper}
 use Rattle.samtags.specs.Bytes.{ascii}
 use Rattle.samtags.specs.Edits.{cutTo, droppingAt, edited, maskedTo}
 use Rattle.samtags.specs.Reading.{lists, readTag}
-use Rattle.samtags.specs.Samtags.{GroupMeans, Names, Spelled, TagMeans, TextMeans, aGroup, isSpelling, kindBefore, meaningOf, noCall, noGroup, ofKind, ordinal}
+use Rattle.samtags.specs.Samtags.{Names, Spelled, TagMeans, TextMeans, aGroup, isSpelling, kindBefore, meaningOf, noCall, noGroup, ofKind, ordinal}
 use Rattle.samtags.specs.Spots.{Call, Listing}
 use Rattle.samtags.specs.Text.{baseOf}
 use Rattle.samtags.proofs.Examples.{at, cs}
 use Rattle.samtags.proofs.Kept.{cut-keeps-the-others, drop-keeps-the-others}
-use Rattle.samtags.proofs.Masking.{mask-keeps-the-others, thenLists}
-use Rattle.samtags.proofs.MeantIsRead.{meant-is-accepted, spelled-is-meant}
-use Rattle.samtags.proofs.ReadMeans.{Read-means, reading-means}
+use Rattle.samtags.proofs.Masking.{differsByN, mask-keeps-the-others, thenLists}
+use Rattle.samtags.proofs.MeantIsRead.{meant-is-accepted, noneOnU, spelled-is-meant}
+use Rattle.samtags.proofs.Names.{upperCase}
+use Rattle.samtags.proofs.ReadMeans.{Read-means, noU, reading-means}
 
 -- ---- SAMtags' own example, `C+m,5,12,0;`, on twenty Cs
 
@@ -52,30 +54,41 @@ pub worked-means : TagMeans cs workedML (map (meaningOf true) (worked ∷ [])) (
 unfolding meaningOf
 worked-means = aGroup (record { asMany = refl; names = worked-names; values = worked-values }) refl noGroup
 
-pub worked-text-means : TextMeans true cs (ascii "C+m,5,12,0;") workedML (workedCalls ∷ [])
+pub worked-spelled : every isSpelling (worked ∷ []) ≡ true
 unfolding isSpelling
-worked-text-means = record { spelling = worked ∷ []; spelled-so = refl; spells = refl; means = worked-means }
+worked-spelled = refl
+
+pub worked-none-on-u : noneOnU (worked ∷ []) ≡ true
+worked-none-on-u = refl
+
+pub worked-upper : upperCase cs ≡ true
+unfolding upper
+worked-upper = refl
+
+pub worked-text-means : TextMeans true cs (ascii "C+m,5,12,0;") workedML (workedCalls ∷ [])
+worked-text-means = record { spelling = worked ∷ []; spelled-so = worked-spelled; spells = refl; means = worked-means }
 
 abbrev pub workedListings : List Listing
 workedListings = record { header = ascii "C+m"; calls = workedCalls } ∷ []
 
 -- what SAMtags allows is accepted
 pub worked-accepted : readTag true cs (ascii "C+m,5,12,0;") workedML ≡ done workedListings
-unfolding isSpelling upper
-worked-accepted = meant-is-accepted true cs worked [] workedML (workedCalls ∷ []) refl refl refl worked-means refl
+worked-accepted = meant-is-accepted true cs worked [] workedML (workedCalls ∷ []) worked-spelled worked-none-on-u worked-upper worked-means refl
 
 -- and what is accepted is meant
 worked-lists : lists true cs (ascii "C+m,5,12,0;") workedML ≡ done workedListings
 unfolding lists
 worked-lists = refl
 
-pub worked-read : Read-means true cs (ascii "C+m,5,12,0;") workedML workedListings
+worked-no-u : noU workedListings ≡ true
 unfolding baseOf upper
-worked-read = reading-means true cs (ascii "C+m,5,12,0;") workedML workedListings worked-lists refl refl
+worked-no-u = refl
+
+pub worked-read : Read-means true cs (ascii "C+m,5,12,0;") workedML workedListings
+worked-read = reading-means true cs (ascii "C+m,5,12,0;") workedML workedListings worked-lists worked-upper worked-no-u
 
 pub worked-is-meant : TagMeans cs workedML (map (meaningOf true) (worked ∷ [])) (workedCalls ∷ [])
-unfolding isSpelling upper
-worked-is-meant = spelled-is-meant true cs (worked ∷ []) workedML workedListings refl refl refl worked-lists .1
+worked-is-meant = spelled-is-meant true cs (worked ∷ []) workedML workedListings worked-spelled worked-none-on-u worked-upper worked-lists .1
 
 -- ---- the edits, on the tag of the scope's program
 
@@ -93,11 +106,14 @@ unfolding lists
 lists-three = refl
 
 -- masked to ANCGTCC
+pub worked-differs : differsByN (ascii "ACCGTCC") (ascii "ANCGTCC") ≡ true
+worked-differs = refl
+
 pub worked-mask :
     thenLists true (ascii "ANCGTCC") [] (edited (maskedTo (ascii "ANCGTCC")) true (ascii "ACCGTCC") text ml)
     ≡ done (listed (at 5 (90 ∷ []) ∷ at 6 (30 ∷ []) ∷ []))
 unfolding baseOf upper
-worked-mask = mask-keeps-the-others true (ascii "ACCGTCC") (ascii "ANCGTCC") text ml _ [] lists-three refl
+worked-mask = mask-keeps-the-others true (ascii "ACCGTCC") (ascii "ANCGTCC") text ml _ [] lists-three worked-differs
 
 -- without the call at place 5
 pub worked-drop :

@@ -1,7 +1,7 @@
 -- The session of the scope's program, by computation, and a dozen worked values: what SAMtags tells of its own examples, and the smaller definitions.
 -- The scope's examples beside each edge stand in the crate `edges`.
 -- Assumes nothing.
-use mathlib.Core.Path.{_≡_, refl}
+use mathlib.Core.Path.{_≡_, refl, sym, ap, _∙_}
 use Prim.Native.Nat.{ℕ}
 use Prim.Native.String.{String}
 use mathlib.Core.Bool.{true, false}
@@ -10,16 +10,19 @@ use mathlib.Core.Option.{none}
 use lib.ListN.{replicate}
 use Rattle.samtags.specs.Bytes.{ascii}
 use Rattle.samtags.specs.Decimal.{digits, value}
-use Rattle.samtags.specs.Text.{valuesPer, endsInQuestion}
+use Rattle.samtags.specs.Text.{codesOf, valuesPer, endsInQuestion}
 use Rattle.lent.specs.Outcome.{Outcome, done, refuse, andThen}
 use Rattle.samtags.specs.Spots.{Call, Listing}
 use Rattle.samtags.specs.Reading.{readTag, callList}
+use Rattle.samtags.specs.Samtags.{Header, headerText, isHeader}
 use Rattle.samtags.specs.Writing.{Tag}
 use Rattle.samtags.specs.Edits.{maskTag, dropFromTag, cutTag}
 use Rattle.samtags.specs.Session.{Step, mask, dropCalls, cut, Held, run, answers}
 use Rattle.pattern.specs.declared.ConversionPattern.the-variants.{CToT, GToA}
 use Rattle.pattern.specs.declared.MethylationMode.the-variants.{EmSeq}
-use Rattle.samtags.specs.Building.{Evidence, joinedTag}
+use Rattle.samtags.specs.Building.{Evidence, joinedTag, mlValue}
+use Rattle.lent.proofs.Tests.{by-test}
+use Rattle.samtags.proofs.OneSpelling.{header-back, headerIn}
 
 -- the calls of each group: places and values
 unfoldable pub calls : List ℕ → String → List ℕ → Outcome (List (List Call))
@@ -101,3 +104,20 @@ pub join-example :
     ≡ record { text = ascii "C+m?,0;G-m?,0;"; ml = 170 ∷ 255 ∷ [] }
 unfolding joinedTag
 join-example = refl
+
+-- ML's values: of 1 in 2 reads, of 1 in 1, of 1 in 3 and of 0 in 5
+pub ml-values : mlValue 1 2 ∷ mlValue 1 1 ∷ mlValue 1 3 ∷ mlValue 0 5 ∷ [] ≡ 128 ∷ 255 ∷ 85 ∷ 0 ∷ []
+unfolding mlValue
+ml-values = refl
+
+-- SAMtags' headers: its codes are lower-case letters, or the six upper-case ones of its table, or a number
+pub header-examples :
+    map (λ h. isHeader (headerIn (ascii h))) ("C+C?" ∷ "N+n?" ∷ "C+mh." ∷ "C-76792" ∷ "C+Q?" ∷ "C+" ∷ [])
+    ≡ true ∷ true ∷ true ∷ true ∷ false ∷ false ∷ []
+unfolding isHeader codesOf
+header-examples = refl
+
+-- however `C+Q?` is taken apart, it is none
+pub no-header-with-q : (h : Header) → headerText h ≡ ascii "C+Q?" → isHeader h ≡ false
+unfolding isHeader codesOf
+no-header-with-q h e = by-test (isHeader h) (λ t. ap isHeader (sym (header-back h t) ∙ ap headerIn e)) (λ t. t)

@@ -93,7 +93,7 @@ mark-bytes = refl
 marks-go : (m : List ℕ) → isMarkText m ≡ true → withoutMarks m ≡ []
 unfolding withoutMarks
 marks-go [] e = refl
-marks-go (x ∷ []) e = rw (among-every isMark (ascii ".?") x mark-bytes (and-true-l (among (ascii ".?") x) true e))
+marks-go (x ∷ []) e = rw (among-every isMark (ascii ".?") x mark-bytes (and-true-l (among (ascii ".?") x) _ e))
 marks-go (x ∷ y ∷ ys) e = let z : _≡_ {A = Bool} false true = and-true-r (among (ascii ".?") x) false e in cc
 
 glue-stays : (c : ℕ) (cs : List ℕ) → isMark c ≡ false → glue c cs ≡ c ∷ cs
@@ -142,7 +142,7 @@ header-every t h p letters signs marks plains =
   where
     mark-every : (m : List ℕ) → isMarkText m ≡ true → every t m ≡ true
     mark-every [] e = refl
-    mark-every (x ∷ []) e = and-true (t x) true (among-every t (ascii ".?") x marks (and-true-l (among (ascii ".?") x) true e)) refl
+    mark-every (x ∷ []) e = and-true (t x) true (among-every t (ascii ".?") x marks (and-true-l (among (ascii ".?") x) _ e)) refl
     mark-every (x ∷ y ∷ ys) e = let z : _≡_ {A = Bool} false true = and-true-r (among (ascii ".?") x) false e in cc
 
 base-bytes : every (λ b. eqb (upper b) b) (ascii "ACGTUN") ≡ true

@@ -1,17 +1,20 @@
 -- Which numbers the definitions can refuse with: reading, the edits, building, and the session's opening and steps.
 -- Assumes nothing.
-use mathlib.Core.Path.{_≡_, refl}
-use Prim.Native.Nat.{ℕ, _+_, _-_}
+use mathlib.Core.Path.{_≡_, refl, sym, ap, _∙_}
+use Prim.Native.Nat.{ℕ, zero, suc, _+_, _-_}
+use native.Mathlib.Omega.{arith}
 use Prim.Native.String.{String}
 use mathlib.Core.Bool.{Bool, true, false, cond, not, _&&_}
 use mathlib.Core.List.{List, [], _∷_, _++_, map}
 use mathlib.Core.Option.{Option, none, some}
 use lib.ListN.{length, drop, replicate}
 use lib.Dec.{leb, eqb}
+use borrow.Author.Tests.{le-leb}
 use Rattle.lent.specs.Lists.{among, every, isEmpty, lastOr}
-use Rattle.lent.specs.Outcome.{Outcome, done, need, numberOf}
+use Rattle.lent.specs.Outcome.{Outcome, refused, done, need, andThen, numberOf}
 use Rattle.lent.specs.Answers.{refusesOnly}
 use Rattle.lent.proofs.Answers.{only-need, only-and-then, only-with-first}
+use Rattle.lent.proofs.Outcome.{and-then-inv, done-inj, need-rest}
 use Rattle.lent.proofs.Tests.{by-test, and-true-l}
 use Rattle.pattern.specs.Patterns.{isEnabled}
 use Rattle.pattern.specs.declared.ConversionPattern.{ConversionPattern}
@@ -23,64 +26,128 @@ use Rattle.samtags.specs.Building.{Evidence, columns, builtTag, buildTag
 use Rattle.samtags.specs.Decimal.{isNumber, value}
 use Rattle.samtags.specs.Edits.{Edit, cutTag, cutTo, dropFromTag, droppingAt, edited, inRoom, liesIn, maskTag, maskedTo, sameBytes, windowStart, withStart}
 use Rattle.samtags.specs.Reading.{deniedTo, inDomain, lists, nowhere, read, readEntry, readGroup, readGroups, readSpots, readTag, tallyTag, valuesIf}
-use Rattle.samtags.specs.Session.{Held, Memory, Step, mask, dropCalls, cut, heldIn, heldWith, inOrder, lengthsInBuffers, lengthsInDomain, masked, openSession, stepInMemory, stepped, stored, window}
-use Rattle.samtags.specs.Spots.{tracked}
+use Rattle.samtags.specs.Session.{Held, Memory, Step, mask, dropCalls, cut, heldIn, heldWith, inOrder, lengthsInBuffers, lengthsInDomain, masked, openSession, stepInMemory, stepped, window}
+use Rattle.samtags.specs.Spots.{Group, Spot, tracked}
 use Rattle.samtags.specs.Text.{baseOf, closedBy, endsInQuestion, ledBy, upTo}
 use Rattle.samtags.specs.Writing.{Tag}
 use Rattle.samtags.proofs.Text.{among-every}
 
--- the reader's own
+-- the reader's own: of the text, and of ML's values, which are asked only where there is an ML
+abbrev pub textNumbers : List ℕ
+textNumbers = 3 ∷ 4 ∷ 5 ∷ 6 ∷ 7 ∷ []
+
+abbrev pub valueNumbers : List ℕ
+valueNumbers = 8 ∷ 9 ∷ []
+
 abbrev pub readerNumbers : List ℕ
 readerNumbers = 3 ∷ 4 ∷ 5 ∷ 6 ∷ 7 ∷ 8 ∷ 9 ∷ []
 
 -- ---- reading
 
--- Any set that has the reader's numbers, and 10 where a call may be named.
-module _ (ns : List ℕ) (has : every (among ns) readerNumbers ≡ true) (named : ℕ → Bool) (ten : (p : ℕ) → named p ≡ true → among ns 10 ≡ true) where
-  reader's : (n : ℕ) → among readerNumbers n ≡ true → among ns n ≡ true
-  reader's n = among-every (among ns) readerNumbers n has
+-- where there are no values none are left over
+none-dropped : (k : ℕ) → drop {A = ℕ} k [] ≡ []
+none-dropped zero = refl
+none-dropped (suc k) = refl
 
-  entry-only : (k : ℕ) (h f places : List ℕ) (n : ℕ) → refusesOnly ns (readEntry k (deniedTo h named) f places n) ≡ true
+spots-left : (k : ℕ) (denied : ℕ → Bool) (fs : List (List ℕ)) (places ml : List ℕ) (r : List Spot × List ℕ) → ml ≡ []
+    → readSpots k denied fs places ml ≡ done r → r .1 ≡ []
+unfolding readSpots
+spots-left k denied [] places ml r z e = ap (λ (x : List Spot × List ℕ). x .1) (sym (done-inj e)) ∙ z
+spots-left k denied (f ∷ fs) places ml r z e =
+    let i = and-then-inv {A = ℕ × List ℕ} (readEntry k denied f places (length ml)) _ r e in
+    let j = and-then-inv (readSpots k denied fs (i .0 .1) (drop k ml)) _ r (i .2) in
+    ap (λ (x : List Spot × List ℕ). x .1) (sym (done-inj (j .2)))
+    ∙ spots-left k denied fs (i .0 .1) (drop k ml) (j .0) (ap (drop k) z ∙ none-dropped k) (j .1)
+
+group-left : (ml? : Bool) (named : ℕ → Bool) (seq g ml : List ℕ) (r : Group × List ℕ) → ml ≡ [] → readGroup ml? named seq g ml ≡ done r → r .1 ≡ []
+unfolding readGroup
+group-left ml? named seq g ml r z e =
+    let h = upTo comma g in
+    let o = readSpots (valuesIf ml? h) (deniedTo h named) (ledBy comma g) (tracked (baseOf h) seq) ml in
+    let i = and-then-inv o _ r (need-rest (leb 2 (length h)) 5 _ r e) in
+    ap (λ (x : Group × List ℕ). x .1) (sym (done-inj (i .2)))
+    ∙ spots-left (valuesIf ml? h) (deniedTo h named) (ledBy comma g) (tracked (baseOf h) seq) ml (i .0) z (i .1)
+
+-- Any set that has the text's numbers, those of the values where there is an ML, and 10 where a call may be named.
+module _ (ns : List ℕ) (ml? : Bool) (texts : (n : ℕ) → among textNumbers n ≡ true → among ns n ≡ true)
+    (values : ml? ≡ true → (n : ℕ) → among valueNumbers n ≡ true → among ns n ≡ true) (named : ℕ → Bool)
+    (ten : (p : ℕ) → named p ≡ true → among ns 10 ≡ true) where
+  -- without an ML a listed base takes no values
+  eight-only : {A : Type 0} (h : List ℕ) (n : ℕ) (o : Outcome A) → refusesOnly ns o ≡ true → refusesOnly ns (need (leb (valuesIf ml? h) n) 8 o) ≡ true
+  unfolding valuesIf
+  eight-only h n o k =
+      by-test ml? (λ m. only-need ns (leb (valuesIf ml? h) n) 8 o (values m 8 refl) k) (λ m. rw (m, le-leb 0 n (omega arith)) k)
+
+  entry-only : (h f places : List ℕ) (n : ℕ) → refusesOnly ns (readEntry (valuesIf ml? h) (deniedTo h named) f places n) ≡ true
   unfolding readEntry
-  entry-only k h f places n =
-      only-need ns (isNumber f) 6 _ (reader's 6 refl)
-      (only-with-first ns (drop (value f) places) 7 _ (reader's 7 refl) (λ p rest.
-      only-need ns (leb k n) 8 _ (reader's 8 refl)
+  entry-only h f places n =
+      only-need ns (isNumber f) 6 _ (texts 6 refl)
+      (only-with-first ns (drop (value f) places) 7 _ (texts 7 refl) (λ p rest.
+      eight-only h n (need (not (deniedTo h named p)) 10 (done (p, rest)))
       (by-test (deniedTo h named p)
       (λ e. rw e (ten p (and-true-l (named p) (not (endsInQuestion h)) e)))
       (λ e. rw e))))
 
-  spots-only : (k : ℕ) (h : List ℕ) (fs : List (List ℕ)) (places ml : List ℕ) → refusesOnly ns (readSpots k (deniedTo h named) fs places ml) ≡ true
+  spots-only : (h : List ℕ) (fs : List (List ℕ)) (places ml : List ℕ) → refusesOnly ns (readSpots (valuesIf ml? h) (deniedTo h named) fs places ml) ≡ true
   unfolding readSpots
-  spots-only k h [] places ml = refl
-  spots-only k h (f ∷ fs) places ml =
-      only-and-then ns (readEntry k (deniedTo h named) f places (length ml)) _ (entry-only k h f places (length ml)) (λ e.
-      only-and-then ns (readSpots k (deniedTo h named) fs (e .1) (drop k ml)) _ (spots-only k h fs (e .1) (drop k ml)) (λ r. refl))
+  spots-only h [] places ml = refl
+  spots-only h (f ∷ fs) places ml =
+      let k = valuesIf ml? h in
+      only-and-then ns (readEntry k (deniedTo h named) f places (length ml)) _ (entry-only h f places (length ml)) (λ e.
+      only-and-then ns (readSpots k (deniedTo h named) fs (e .1) (drop k ml)) _ (spots-only h fs (e .1) (drop k ml)) (λ r. refl))
 
-  group-only : (ml? : Bool) (seq g ml : List ℕ) → refusesOnly ns (readGroup ml? named seq g ml) ≡ true
+  group-only : (seq g ml : List ℕ) → refusesOnly ns (readGroup ml? named seq g ml) ≡ true
   unfolding readGroup
-  group-only ml? seq g ml =
+  group-only seq g ml =
       let h = upTo comma g in
-      only-need ns (leb 2 (length h)) 5 _ (reader's 5 refl)
+      only-need ns (leb 2 (length h)) 5 _ (texts 5 refl)
       (only-and-then ns (readSpots (valuesIf ml? h) (deniedTo h named) (ledBy comma g) (tracked (baseOf h) seq) ml) _
-      (spots-only (valuesIf ml? h) h (ledBy comma g) (tracked (baseOf h) seq) ml) (λ r. refl))
+      (spots-only h (ledBy comma g) (tracked (baseOf h) seq) ml) (λ r. refl))
 
-  groups-only : (ml? : Bool) (seq : List ℕ) (gs : List (List ℕ)) (ml : List ℕ) → refusesOnly ns (readGroups ml? named seq gs ml) ≡ true
+  -- a group, and the others with what values it leaves
+  group-and-more : (seq : List ℕ) (gs : List (List ℕ)) (o : Outcome (Group × List ℕ)) → refusesOnly ns o ≡ true
+      → ((r : Group × List ℕ) → o ≡ done r → ml? ≡ false → r .1 ≡ [])
+      → ((ml : List ℕ) → (ml? ≡ false → ml ≡ []) → refusesOnly ns (readGroups ml? named seq gs ml) ≡ true)
+      → refusesOnly ns (andThen o (λ r. andThen (readGroups ml? named seq gs (r .1)) (λ rest. done (r .0 ∷ rest)))) ≡ true
+  group-and-more seq gs (refused q) k left more = k
+  group-and-more seq gs (done r) k left more = only-and-then ns (readGroups ml? named seq gs (r .1)) _ (more (r .1) (left r refl)) (λ rest. refl)
+
+  groups-only : (seq : List ℕ) (gs : List (List ℕ)) (ml : List ℕ) → (ml? ≡ false → ml ≡ []) → refusesOnly ns (readGroups ml? named seq gs ml) ≡ true
   unfolding readGroups
-  groups-only ml? seq [] ml = only-need ns (isEmpty ml) 9 _ (reader's 9 refl) refl
-  groups-only ml? seq (g ∷ gs) ml =
-      only-and-then ns (readGroup ml? named seq g ml) _ (group-only ml? seq g ml) (λ r.
-      only-and-then ns (readGroups ml? named seq gs (r .1)) _ (groups-only ml? seq gs (r .1)) (λ rest. refl))
+  groups-only seq [] ml z = by-test ml? (λ m. only-need ns (isEmpty ml) 9 _ (values m 9 refl) refl) (λ m. rw (z m))
+  groups-only seq (g ∷ gs) ml z =
+      group-and-more seq gs (readGroup ml? named seq g ml) (group-only seq g ml) (λ r e m. group-left ml? named seq g ml r (z m) e) (groups-only seq gs)
+
+  reads-only : (seq text ml : List ℕ) → refusesOnly ns (read ml? named seq text ml) ≡ true
+  unfolding read
+  reads-only seq text ml =
+      only-need ns (every isAscii text) 3 _ (texts 3 refl)
+      (only-need ns (eqb (lastOr 0 text) semicolon) 4 _ (texts 4 refl)
+      (groups-only seq (closedBy semicolon text) (cond ml? ml []) (λ m. rw m)))
+
+-- Any set that has all of the reader's numbers, and 10 where a call may be named.
+module _ (ns : List ℕ) (has : every (among ns) readerNumbers ≡ true) (named : ℕ → Bool) (ten : (p : ℕ) → named p ≡ true → among ns 10 ≡ true) where
+  reader's : (ms : List ℕ) → every (among readerNumbers) ms ≡ true → (n : ℕ) → among ms n ≡ true → among ns n ≡ true
+  reader's ms h n e = among-every (among ns) readerNumbers n has (among-every (among readerNumbers) ms n h e)
 
   pub read-only : (ml? : Bool) (seq text ml : List ℕ) → refusesOnly ns (read ml? named seq text ml) ≡ true
-  unfolding read
-  read-only ml? seq text ml =
-      only-need ns (every isAscii text) 3 _ (reader's 3 refl)
-      (only-need ns (eqb (lastOr 0 text) semicolon) 4 _ (reader's 4 refl) (groups-only ml? seq (closedBy semicolon text) (cond ml? ml [])))
+  read-only ml? = reads-only ns ml? (reader's textNumbers refl) (λ m. reader's valueNumbers refl) named ten
 
 -- no call is named
 none-named : (ns : List ℕ) (p : ℕ) → nowhere p ≡ true → among ns 10 ≡ true
 none-named ns p e = cc
+
+-- Without an ML 8 and 9 do not arise: any set that has the text's numbers.
+module _ (ns : List ℕ) (has : every (among ns) textNumbers ≡ true) where
+  pub read-without-ml : (named : ℕ → Bool) → ((p : ℕ) → named p ≡ true → among ns 10 ≡ true) → (seq text ml : List ℕ)
+      → refusesOnly ns (read false named seq text ml) ≡ true
+  read-without-ml named ten = reads-only ns false (λ n. among-every (among ns) textNumbers n has) (λ m n e. cc) named ten
+
+  pub read-tag-without-ml : among ns 1 ≡ true → (seq text ml : List ℕ) → refusesOnly ns (readTag false seq text ml) ≡ true
+  unfolding readTag lists
+  read-tag-without-ml one seq text ml =
+      only-need ns (inDomain false seq text ml) 1 _ one
+      (only-and-then ns (read false nowhere seq text ml) _ (read-without-ml nowhere (none-named ns) seq text ml) (λ gs. refl))
 
 -- Any set that has the reader's numbers.
 module _ (ns : List ℕ) (has : every (among ns) readerNumbers ≡ true) where
