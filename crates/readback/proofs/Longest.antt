@@ -1,23 +1,28 @@
--- The bound on a built tag is met by the duplex call: two C to T strands that list every one of 16,000 C take 64,010 bytes of text.
+-- The bound on a built tag is met by the duplex call: two C to T strands that list every one of 16,000 C take 64,010 bytes of text, and with enough room the
+-- call answers so.
 -- Assumes nothing.
 use mathlib.Core.Path.{_≡_, refl, sym, ap, _∙_}
-use Prim.Native.Nat.{ℕ, zero, suc, _+_, _*_, _<_}
+use Prim.Native.Nat.{ℕ, zero, suc, _+_, _*_, _<_, _≤_}
 use native.Mathlib.Omega.{arith}
 use mathlib.Core.Bool.{true, false}
 use mathlib.Core.List.{List, [], _∷_}
-use lib.ListN.{length, replicate}
+use lib.Dec.{leb}
+use lib.ListN.{length, length-replicate, replicate}
+use borrow.Author.Tests.{eq-eqb, le-leb}
+use Rattle.lent.specs.Filled.{leaves}
+use Rattle.lent.specs.Outcome.{done, onDone}
 use Rattle.pattern.specs.Case.{upper, sameInAnyCase}
 use Rattle.pattern.specs.Patterns.{isEnabled}
 use Rattle.pattern.specs.declared.ConversionPattern.the-variants.{CToT}
 use Rattle.pattern.specs.declared.MethylationMode.{MethylationMode}
 use Rattle.columns.specs.Columns.{restored}
 use Rattle.samtags.specs.Writing.{Tag}
-use Rattle.samtags.specs.Building.{Strand, joinedTag}
+use Rattle.samtags.specs.Building.{Strand, evidenceAgrees, evidenceInDomain, joinedTag}
 use Rattle.samtags.proofs.Longest.{allSeen, two-strands-length}
-use Rattle.duplex.specs.Duplex.{restoredBy, duplexed}
+use Rattle.duplex.specs.Duplex.{Duplexed, admitted, duplexTags, duplexed, lengthsOf, restoredBy, within}
 use Rattle.duplex.specs.declared.Lengths.{Lengths}
 use Rattle.duplex.specs.declared.Duplex.the-variants as duplex
-use Rattle.duplex.specs.Contracts.{Rows, Duplexes}
+use Rattle.duplex.specs.Contracts.{Duplexes, Rows, elevenRows, lengthsLent}
 use Rattle.readback.proofs.Joined.{came-to}
 
 -- where SEQ shows C there is nothing to restore
@@ -48,3 +53,56 @@ longest mode n lent f l e h c =
 pub longest-duplex : (mode : MethylationMode) (lent : Rows) (f : Lengths) (l : Rows) → isEnabled mode ≡ true
     → Duplexes 2 mode (replicate 16000 67) (seenStrand 16000) (seenStrand 16000) lent (duplex.Done f) l → (f .mm ≡ 64010) × (f .ml ≡ 32000)
 longest-duplex mode lent f l e c = longest mode 16000 lent f l e (omega arith) c
+
+-- ---- and there are rows with which it answers Done: those that are just as long as their parts
+
+within-itself : (l : Lengths) → within l l ≡ true
+within-itself l =
+    let leb-itself : (n : ℕ) → leb n n ≡ true = λ n. le-leb n n (omega arith) in
+    rw (leb-itself (l .seq), leb-itself (l .mm), leb-itself (l .ml), leb-itself (l .unconverted), leb-itself (l .converted), leb-itself (l .«first_mm»), leb-itself (l .«first_unconverted»), leb-itself (l .«first_converted»), leb-itself (l .«second_mm»), leb-itself (l .«second_unconverted»), leb-itself (l .«second_converted»))
+
+seen-passes : (n : ℕ) → n ≤ 16000
+    → (evidenceInDomain (allSeen n) (replicate n 67) ≡ true) × (evidenceAgrees (allSeen n) (replicate n 67) ≡ true)
+seen-passes n h = (
+  rw (length-replicate {A = ℕ} n 67, length-replicate {A = ℕ} n 1, length-replicate {A = ℕ} n 0, le-leb n 16000 h),
+  rw (length-replicate {A = ℕ} n 67, length-replicate {A = ℕ} n 1, length-replicate {A = ℕ} n 0, eq-eqb n n refl),
+)
+
+-- the parts of an answer as rows
+abbrev partsOf : Duplexed → Rows
+partsOf d =
+    elevenRows (d .seq) (d .joined .text) (d .joined .ml) (d .unconverted) (d .converted) (d .first .text) (d .first .unconverted) (d .first .converted) (d .second .text)
+    (d .second .unconverted) (d .second .converted)
+
+comes-to : (mode : MethylationMode) (n : ℕ) → n ≤ 16000
+    → let d = duplexed true mode (replicate n 67) (seenStrand n) (seenStrand n) in
+    duplexTags 2 mode (replicate n 67) (seenStrand n) (seenStrand n) (lengthsLent (partsOf d)) ≡ done d
+unfolding duplexTags admitted
+comes-to mode n h =
+    let (short, same) = seen-passes n h in
+    rw (short, same, within-itself (lengthsOf (duplexed true mode (replicate n 67) (seenStrand n) (seenStrand n))))
+
+pub longest-is-met : (mode : MethylationMode) (n : ℕ) → n ≤ 16000
+    → (lent : Rows) × (f : Lengths) × (left : Rows) × Duplexes 2 mode (replicate n 67) (seenStrand n) (seenStrand n) lent (duplex.Done f) left
+longest-is-met mode n h =
+    let s = seenStrand n in
+    let d = duplexed true mode (replicate n 67) s s in
+    let lent = partsOf d in
+    let o = duplexTags 2 mode (replicate n 67) s s (lengthsLent lent) in
+    let is : o ≡ done d = comes-to mode n h in (
+      lent,
+      lengthsOf d,
+      elevenRows
+          (leaves (λ (d : Duplexed). d .seq) o (d .seq))
+          (leaves (λ (d : Duplexed). d .joined .text) o (d .joined .text))
+          (leaves (λ (d : Duplexed). d .joined .ml) o (d .joined .ml))
+          (leaves (λ (d : Duplexed). d .unconverted) o (d .unconverted))
+          (leaves (λ (d : Duplexed). d .converted) o (d .converted))
+          (leaves (λ (d : Duplexed). d .first .text) o (d .first .text))
+          (leaves (λ (d : Duplexed). d .first .unconverted) o (d .first .unconverted))
+          (leaves (λ (d : Duplexed). d .first .converted) o (d .first .converted))
+          (leaves (λ (d : Duplexed). d .second .text) o (d .second .text))
+          (leaves (λ (d : Duplexed). d .second .unconverted) o (d .second .unconverted))
+          (leaves (λ (d : Duplexed). d .second .converted) o (d .second .converted)),
+      (ap (onDone lengthsOf) (sym is), refl, refl, refl, refl, refl, refl, refl, refl, refl, refl, refl),
+    )
