@@ -14,7 +14,7 @@ use Rattle.lent.specs.Lists.{among}
 use Rattle.samtags.specs.Decimal.{value}
 use Rattle.samtags.specs.Session.{dropCalls, heldIn}
 use Rattle.changing.proofs.WindowLaws.{marked-only}
-use Rattle.changing.specs.Windows.{isMarked}
+use Rattle.changing.specs.Windows.{isMarked, markedAt}
 use Rattle.lines.specs.Lines.{given, joined, numbersOf}
 use Rattle.stepping.proofs.StepLaws.{drop-is-step}
 use Rattle.stepping.specs.Steps.{leavesMemory, memory}
@@ -63,8 +63,9 @@ returns-2 c =
     let places = map value (joined (a .body .now)) in
     let good : listed .result ≡ true = not-false _ (c .before .before .before .before .before .before .before .before .before .if1 .left) in
     let asked = given (numbersOf 4294967295 (a .body .now)) none (λ ns. some (dropCalls ns)) in
+    let marked : listed .last .1 .0 ≡ markedAt places (row .result) = listed .ensures .1 good in
     let named : (p : ℕ) → p < length (heldIn m .seq) → isMarked (listed .last .1 .0) p ≡ among places p = λ p l.
-    ap (λ (marks : List ℕ). isMarked marks p) (listed .ensures .1 good)
+    ap (λ (marks : List ℕ). isMarked marks p) marked
     ∙ marked-only places (row .result) (row .ensures .1) p (omega
     (arith, s .pre .0 .0, row .ensures .0, length-take (a .lengths .seq) (a .seq .now))) in
     subst
