@@ -150,6 +150,8 @@ module _ (out : List ℕ) (r : ℕ) (out′ : List ℕ) where
   pub scope-case-told-without-ml : Transcribes (ascii "SQACCGTCC\nMMC+m?,0,1,0;\nMK1\n") out r out′
       → (listed : List Listing) × Tells false (record { seq = seq; text = text; ml = [] }) listed (mask (1 ∷ []) ∷ []) (take r out′)
   unfolding readTag stepOf
-  scope-case-told-without-ml told =
-      (_, tells-without-ml (ascii "SQACCGTCC\nMMC+m?,0,1,0;\nMK1\n") seq text (omega arith) out r out′ told (ascii "MK1" ∷ []) (mask (1 ∷ []) ∷ []) _ refl
-      refl refl)
+  scope-case-told-without-ml told = (
+    _,
+    tells-without-ml (ascii "SQACCGTCC\nMMC+m?,0,1,0;\nMK1\n") seq text (omega arith) out r out′ told (ascii "MK1" ∷ []) (mask (1 ∷ []) ∷ []) _ refl
+        refl refl,
+  )
