@@ -5,8 +5,8 @@ use borrow.Author.Needs.{needs}
 use Rattle.lent.specs.Outcome.{refused}
 use Rattle.lent.specs.declared.Refusal.{Refusal}
 use Rattle.stepping.proofs.OrderLaws.{order-kept}
-use Rattle.stepping.specs.Steps.{Ordered, came, memory, orderRefusal, orderSays}
-use Rattle.samtags.specs.Session.{Memory, cut}
+use Rattle.stepping.specs.Steps.{Ordered, came, leavesMemory, memory, orderRefusal, orderSays, stepSays}
+use Rattle.samtags.specs.Session.{Memory, cut, stepInMemory}
 use Rattle.stepping.proofs.StepLaws.{left-as-was, refused-by-order}
 use Rattle.session.proofs.cut.Statement.{statement}
 use Rattle.session.proofs.cut.Tie as tie
@@ -56,7 +56,15 @@ same-length-3 : tie.Need-same-length-3
 same-length-3 c = search needs
 
 returns-2 : tie.Need-returns-2
-returns-2 c = search needs
+returns-2 c =
+    let w = c .before .before .before .before .before .before in
+    let s = c .before .before .before .before .before .before .before .before .before .before .before .before .before .before .before .before in
+    let a = s .args in
+    let l = w .cut-ends .last in
+    let made : came (stepSays (w .cut-ends .result)) (l .0) (l .1 .0) (l .1 .1 .0)
+    ≡ leavesMemory (before s) (stepInMemory (a .has-ml) (cut (a .front) (a .back)) (before s)) =
+    w .cut-ends .ensures in
+    made
 
 pub cut-spec : {M : Type 1} → statement M
 cut-spec =
