@@ -17,14 +17,14 @@ use Rattle.lent.specs.Outcome.{done}
 use Rattle.pattern.specs.Case.{upper}
 use Rattle.samtags.proofs.Read.{mayDrop, tag-fits, tag-read, tag-some}
 use Rattle.samtags.proofs.ReadWritten.{AllFit, Fits, sized}
-use Rattle.samtags.proofs.SameText.{isCall, ml-same, onSpots, text-same}
-use Rattle.samtags.proofs.Steps.{cut-answers, cut-reads, cutGroup, drop-answers, drop-reads, dropGroup, map-some, moved, read-back, unlist-none}
+use Rattle.samtags.proofs.SameText.{onSpots}
+use Rattle.samtags.proofs.Steps.{cut-answers, cut-reads, cutGroup, drop-answers, drop-reads, dropGroup, map-some, moved, read-back, unlist-none, written-moved}
 use Rattle.samtags.specs.Bytes.{letterN}
 use Rattle.samtags.specs.Edits.{changed, cutTo, droppingAt, edited, isMasked, liesIn, unlist}
 use Rattle.samtags.specs.Meaning.{inside, nearer}
 use Rattle.samtags.specs.Reading.{lists, nowhere, read, valuesIf}
 use Rattle.samtags.specs.Session.{window}
-use Rattle.samtags.specs.Spots.{Call, Group, Listing, Spot, bare, call, callsIn, holds, listing, placeOf, placesFrom, tracked, valuesOf}
+use Rattle.samtags.specs.Spots.{Call, Group, Listing, Spot, bare, call, callsIn, holds, listing, placeOf, placesFrom, tracked}
 use Rattle.samtags.specs.Text.{baseOf}
 use Rattle.samtags.specs.Writing.{Tag, written}
 
@@ -97,9 +97,9 @@ held-places b i (x ∷ xs) (y ∷ ys) whole n d l =
     (λ h. rw (h, here h, getD-step i whole 0 d, h, rest))
     (λ h. rw h (by-test (holds b y) (λ k. rw (k, getD-step i whole 0 d, h) rest) (λ k. rw k rest)))
 
-moved-says : (a : ℕ) (s : Spot) → (placeOf (moved a s) ≡ placeOf s - a) × (isCall (moved a s) ≡ isCall s) × (valuesOf (moved a s) ≡ valuesOf s)
-moved-says a (bare p) = (refl, refl, refl)
-moved-says a (call p vs) = (refl, refl, refl)
+moved-place : (a : ℕ) (s : Spot) → placeOf (moved a s) ≡ placeOf s - a
+moved-place a (bare p) = refl
+moved-place a (call p vs) = refl
 
 -- of a group's spots those whose base `after` holds
 abbrev onlyHeld : List ℕ → Group → Group
@@ -116,7 +116,7 @@ module _ (a : ℕ) (after : List ℕ) where
       let inner : List Spot = filter (λ s. inside a (length after) (placeOf s)) (g .spots) in
       filter-map (λ s. t (placeOf s)) (moved a) inner
       ∙ ap (map (moved a))
-      (filter-ext (λ s. t (placeOf (moved a s))) (λ s. t (placeOf s - a)) (λ s. ap t (moved-says a s .0)) inner
+      (filter-ext (λ s. t (placeOf (moved a s))) (λ s. t (placeOf s - a)) (λ s. ap t (moved-place a s)) inner
       ∙ filter-filter (λ s. t (placeOf s - a)) (λ s. inside a (length after) (placeOf s)) (g .spots))
 
   held-listing : (g : Group) → listing (heldGroup g) ≡ callsHeldIn a after (listing g)
@@ -128,12 +128,10 @@ module _ (a : ℕ) (after : List ℕ) where
   unfolding changed cutTo
   held-changed g = ap (λ (ss : List Spot). record { header = g .header; spots = ss }) (rw (unlist-none (g .spots)) (held-spots g))
 
-  -- places are not written
   held-written : (gs : List Group) → written (map heldGroup gs) ≡ written (map (changed (cutTo a after)) gs)
-  unfolding written
   held-written gs =
-      let cut = map (changed (cutTo a after)) gs in
-      rw (map-ext heldGroup (λ g. onSpots (moved a) (changed (cutTo a after) g)) held-changed gs, ← map-map (onSpots (moved a)) (changed (cutTo a after)) gs, text-same (moved a) (λ s. moved-says a s .1) cut, ml-same (moved a) (λ s. moved-says a s .2) cut)
+      rw (map-ext heldGroup (λ g. onSpots (moved a) (changed (cutTo a after) g)) held-changed gs, ← map-map (onSpots (moved a)) (changed (cutTo a after)) gs)
+      (written-moved a (map (changed (cutTo a after)) gs))
 
   module _ (ml? : Bool) (seq : List ℕ) (l : liesIn after (drop a seq) ≡ true) where
     held-fits : (g : Group) → Fits ml? (window a (length after) seq) (cutGroup a (length after) g) → Fits ml? after (heldGroup g)

@@ -94,7 +94,7 @@ sized-moved k a (bare p ∷ ss) = sized-moved k a ss
 sized-moved k a (call p vs ∷ ss) = ap (λ (r : Bool). eqb (length vs) k && r) (sized-moved k a ss)
 
 -- places are not written
-written-moved : (a : ℕ) (gs : List Group) → written (map (onSpots (moved a)) gs) ≡ written gs
+pub written-moved : (a : ℕ) (gs : List Group) → written (map (onSpots (moved a)) gs) ≡ written gs
 unfolding written
 written-moved a gs = rw (text-same (moved a) calls-stay gs, ml-same (moved a) values-stay gs)
   where

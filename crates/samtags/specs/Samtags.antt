@@ -135,7 +135,7 @@ unfoldable pub meaningOf : Bool → Spelled → Entries
 unfolding codeCount value
 meaningOf ml? s = record { base = s .header .base; per = cond ml? (codeCount (s .header)) 0; skips = map value (s .skips) }
 
--- The text, spelled as SAMtags says, means these calls of its groups; an ML that there is not is not looked at.
+-- The text, spelled as SAMtags says, means these calls of its groups. Without ML the values are ignored.
 pub record TextMeans (ml? : Bool) (seq text ml : List ℕ) (css : List (List Call)) : Type 0 where
   pub spelling : List Spelled
   pub spelled-so : every isSpelling spelling ≡ true
