@@ -5,12 +5,11 @@ use Prim.Native.Nat.{ℕ}
 use mathlib.Core.Bool.{Bool, true, false}
 use mathlib.Core.List.{List, [], _∷_}
 use lib.ListN.{length, take}
-use Rattle.lent.specs.Filled.{over}
 use Rattle.lent.specs.Outcome.{done, onDone}
 use Rattle.lent.specs.declared.Tagged.the-variants as tagged
 use Rattle.lent.specs.declared.Written.the-variants as written
 use Rattle.lent.proofs.Leaves.{front-is-part}
-use Rattle.lent.proofs.Outcome.{on-done-inv, done-inj}
+use Rattle.lent.proofs.Outcome.{on-done-inv}
 use Rattle.pattern.specs.declared.ConversionPattern.{ConversionPattern}
 use Rattle.pattern.specs.declared.MethylationMode.{MethylationMode}
 use Rattle.samtags.specs.Spots.{Listing}
@@ -21,21 +20,20 @@ use Rattle.samtags.proofs.Names.{upperCase}
 use Rattle.samtags.proofs.Building.{evidenceListing, built-is-accepted}
 use Rattle.samtags.proofs.BuiltSays.{Says, built-says}
 use Rattle.building.specs.Contracts.{Built, BuiltAlone}
-use Rattle.reading.specs.Calls.{countsOf, groupColumn, placeColumn, startColumn}
+use Rattle.reading.specs.Calls.{countsOf}
 use Rattle.reading.specs.Answers.{readingSays}
 use Rattle.reading.specs.Contracts.{ChecksTag, ReadsCalls}
 use Rattle.reading.specs.declared.Reading.{Reading}
-use Rattle.reading.specs.declared.Reading.the-variants as reading
-use Rattle.reading.proofs.Promises.{Accepted, read-calls-mean}
+use Rattle.reading.proofs.Promises.{Listed, Room, read-calls-with-room}
 
--- What a reader finds in these rows: the listings, in SAMtags' words too, and as the answers of `check_tag` and `read_calls`.
+-- What a reader finds in these rows: the listings, in SAMtags' words too, and as what `check_tag` answers and, where its columns have room, `read_calls`
+-- answers and leaves.
 pub record ReadsBack (ml? : Bool) (seq text ml : List ℕ) (ls : List Listing) : Type 0 where
   pub accepted : readTag ml? seq text ml ≡ done ls
   pub says : Says ml? seq text ml ls
   pub checked : (r : Reading) → ChecksTag ml? seq text ml r → readingSays r ≡ done (countsOf ls)
-  pub listed : (groups calls : ℕ) (gs ps ss gs′ ps′ ss′ : List ℕ)
-      → ReadsCalls ml? seq text ml gs ps ss (reading.Done groups calls) gs′ ps′ ss′
-      → (_≡_ {A = ℕ × ℕ} (countsOf ls) (groups, calls)) × (gs′ ≡ over (groupColumn ls) gs) × (ps′ ≡ over (placeColumn ls) ps) × (ss′ ≡ over (startColumn ls) ss)
+  pub listed : (gs ps ts : List ℕ) → Room ls gs ps ts → (r : Reading) (gs′ ps′ ts′ : List ℕ) → ReadsCalls ml? seq text ml gs ps ts r gs′ ps′ ts′
+      → Listed ls gs ps ts r gs′ ps′ ts′
 
 pub reads-back : (ml? : Bool) (seq text ml : List ℕ) (ls : List Listing) → readTag ml? seq text ml ≡ done ls → Says ml? seq text ml ls
     → ReadsBack ml? seq text ml ls
@@ -43,18 +41,8 @@ reads-back ml? seq text ml ls e s = record {
   accepted = e;
   says = s;
   checked = λ (r : Reading) (c : ChecksTag ml? seq text ml r). c ∙ ap (onDone countsOf) e;
-  listed = λ (groups calls : ℕ) (gs ps ss gs′ ps′ ss′ : List ℕ)
-      (c : ReadsCalls ml? seq text ml gs ps ss (reading.Done groups calls) gs′ ps′ ss′).
-      found groups calls gs ps ss gs′ ps′ ss′ (read-calls-mean ml? seq text ml groups calls gs ps ss gs′ ps′ ss′ c);
+  listed = read-calls-with-room ml? seq text ml ls e;
 }
-  where
-    found : (groups calls : ℕ) (gs ps ss gs′ ps′ ss′ : List ℕ)
-        → (ks : List Listing) × Accepted ml? seq text ml groups calls ks
-        × (gs′ ≡ over (groupColumn ks) gs) × (ps′ ≡ over (placeColumn ks) ps) × (ss′ ≡ over (startColumn ks) ss)
-        → (_≡_ {A = ℕ × ℕ} (countsOf ls) (groups, calls)) × (gs′ ≡ over (groupColumn ls) gs) × (ps′ ≡ over (placeColumn ls) ps) × (ss′ ≡ over (startColumn ls) ss)
-    found groups calls gs ps ss gs′ ps′ ss′ f =
-        let same : f .0 ≡ ls = done-inj (sym (f .1 .read) ∙ e) in
-        rw (← same) (f .1 .counts, f .2, f .3, f .4)
 
 module _ (mode : MethylationMode) (p : ConversionPattern) (ev : Evidence) (seq mm ml : List ℕ) (u : upperCase seq ≡ true) where
   -- `build_mm_ml_tags` answered Done

@@ -85,6 +85,32 @@ module _ (ml? : Bool) (seq text ml : List ℕ) (groups calls : ℕ) where
         ap (λ (c : CallsRead). c .starts) e ∙ left startColumn o (i .0) ss (i .1),
       )
 
+-- ---- a tag that is read is listed
+
+-- the columns have room for these calls
+abbrev pub Room : List Listing → List ℕ → List ℕ → List ℕ → Type 0
+Room ls gs ps ts = (length (callList ls) ≤ length gs) × (length (callList ls) ≤ length ps) × (length (callList ls) ≤ length ts)
+
+-- Done with their number, and their columns over what was lent
+abbrev pub Listed : List Listing → List ℕ → List ℕ → List ℕ → Reading → List ℕ → List ℕ → List ℕ → Type 0
+Listed ls gs ps ts r gs′ ps′ ts′ =
+    (readingSays r ≡ done (countsOf ls)) × (gs′ ≡ over (groupColumn ls) gs) × (ps′ ≡ over (placeColumn ls) ps) × (ts′ ≡ over (startColumn ls) ts)
+
+-- `read_calls` answers Done on a tag that is read, wherever its columns have room
+pub read-calls-with-room : (ml? : Bool) (seq text ml : List ℕ) (ls : List Listing) → readTag ml? seq text ml ≡ done ls
+    → (gs ps ts : List ℕ) → Room ls gs ps ts → (r : Reading) (gs′ ps′ ts′ : List ℕ) → ReadsCalls ml? seq text ml gs ps ts r gs′ ps′ ts′
+    → Listed ls gs ps ts r gs′ ps′ ts′
+unfolding readCalls listedCalls
+read-calls-with-room ml? seq text ml ls read gs ps ts room r gs′ ps′ ts′ e =
+    let n = length (callList ls) in
+    let o = listedCalls ml? seq text ml (length gs) (length ps) (length ts) in
+    let is : o ≡ done ls = rw (read, le-leb n (length gs) (room .0), le-leb n (length ps) (room .1), le-leb n (length ts) (room .2)) in (
+      ap (λ (c : CallsRead). c .answer) e ∙ ap (onDone countsOf) is,
+      ap (λ (c : CallsRead). c .groups) e ∙ left groupColumn o ls gs is,
+      ap (λ (c : CallsRead). c .places) e ∙ left placeColumn o ls ps is,
+      ap (λ (c : CallsRead). c .starts) e ∙ left startColumn o ls ts is,
+    )
+
 -- ---- a tag that SAMtags gives a meaning
 
 -- Spelled as SAMtags says, none on U, within the domain: `check_tag` answers with the groups and the calls that it means.
@@ -100,25 +126,12 @@ check-tag-accepts ml? seq s ss ml css r ok none upper means within e =
 pub read-calls-lists : (ml? : Bool) (seq : List ℕ) (s : Spelled) (ss : List Spelled) (ml : List ℕ) (css : List (List Call))
     → every isSpelling (s ∷ ss) ≡ true → noneOnU (s ∷ ss) ≡ true → upperCase seq ≡ true
     → TagMeans seq (cond ml? ml []) (map (meaningOf ml?) (s ∷ ss)) css → inDomain ml? seq (spelled (map pieceOf (s ∷ ss))) ml ≡ true
-    → (gs ps ts : List ℕ) (r : Reading) (gs′ ps′ ts′ : List ℕ)
-    → length (callList (listingsOf (s ∷ ss) css)) ≤ length gs → length (callList (listingsOf (s ∷ ss) css)) ≤ length ps
-    → length (callList (listingsOf (s ∷ ss) css)) ≤ length ts
+    → (gs ps ts : List ℕ) → Room (listingsOf (s ∷ ss) css) gs ps ts → (r : Reading) (gs′ ps′ ts′ : List ℕ)
     → ReadsCalls ml? seq (spelled (map pieceOf (s ∷ ss))) ml gs ps ts r gs′ ps′ ts′
-    → (readingSays r ≡ done (countsOf (listingsOf (s ∷ ss) css))) × (gs′ ≡ over (groupColumn (listingsOf (s ∷ ss) css)) gs)
-    × (ps′ ≡ over (placeColumn (listingsOf (s ∷ ss) css)) ps) × (ts′ ≡ over (startColumn (listingsOf (s ∷ ss) css)) ts)
-unfolding readCalls listedCalls
-read-calls-lists ml? seq s ss ml css ok none upper means within gs ps ts r gs′ ps′ ts′ a b c e =
-    let ls = listingsOf (s ∷ ss) css in
-    let n = length (callList ls) in
-    let text = spelled (map pieceOf (s ∷ ss)) in
-    let o = listedCalls ml? seq text ml (length gs) (length ps) (length ts) in
-    let is : o ≡ done ls =
-    rw (meant-is-accepted ml? seq s ss ml css ok none upper means within, le-leb n (length gs) a, le-leb n (length ps) b, le-leb n (length ts) c) in (
-      ap (λ (c : CallsRead). c .answer) e ∙ ap (onDone countsOf) is,
-      ap (λ (c : CallsRead). c .groups) e ∙ left groupColumn o ls gs is,
-      ap (λ (c : CallsRead). c .places) e ∙ left placeColumn o ls ps is,
-      ap (λ (c : CallsRead). c .starts) e ∙ left startColumn o ls ts is,
-    )
+    → Listed (listingsOf (s ∷ ss) css) gs ps ts r gs′ ps′ ts′
+read-calls-lists ml? seq s ss ml css ok none upper means within =
+    read-calls-with-room ml? seq (spelled (map pieceOf (s ∷ ss))) ml (listingsOf (s ∷ ss) css)
+    (meant-is-accepted ml? seq s ss ml css ok none upper means within)
 
 -- ---- and a tag so spelled that is accepted has that meaning, where codes count as SAMtags says
 
@@ -180,8 +193,8 @@ pub worked-calls : (r : Reading) (gs′ ps′ ts′ : List ℕ) → ReadsCalls t
     → (readingSays r ≡ done (1, 3)) × (gs′ ≡ 1 ∷ 1 ∷ 1 ∷ 4 ∷ []) × (ps′ ≡ 5 ∷ 18 ∷ 19 ∷ 4 ∷ []) × (ts′ ≡ 0 ∷ 1 ∷ 2 ∷ 4 ∷ [])
 unfolding isSpelling baseOf callList over
 worked-calls r gs′ ps′ ts′ e =
-    read-calls-lists true cs worked [] workedML (workedCalls ∷ []) refl refl refl worked-means refl fours fours fours r gs′ ps′ ts′
-    (omega arith) (omega arith) (omega arith) e
+    read-calls-lists true cs worked [] workedML (workedCalls ∷ []) refl refl refl worked-means refl fours fours fours
+    (omega arith, omega arith, omega arith) r gs′ ps′ ts′ e
 
 worked-checked : ChecksTag true cs (ascii "C+m,5,12,0;") workedML (reading.Done 1 3)
 unfolding readTag callList

@@ -1,7 +1,7 @@
 -- Which numbers each public call can answer, 0 just where it is done. The number is the definition's, and samtags/proofs/Numbers has an input for each
 -- of them (`open-session-each`, `mask-step-each`, `drop-step-each`, `cut-step-each`).
 -- Assumes nothing.
-use mathlib.Core.Path.{_≡_, refl, ap, _∙_}
+use mathlib.Core.Path.{_≡_, refl, ap}
 use Prim.Native.Nat.{ℕ}
 use mathlib.Core.Bool.{Bool, true, false}
 use mathlib.Core.List.{List}
@@ -46,12 +46,8 @@ step-numbers ml? w c e =
 
 -- ---- the number is the definition's
 
-pub open-number : (ml? : Bool) (w : Rows) (r : Reading) → Opens ml? w r → numberOf (readingSays r) ≡ numberOf (openSession ml? (inMemory w))
-open-number ml? w r e = ap numberOf e ∙ same-number countsOf (openSession ml? (inMemory w))
-  where
-    same-number : {A B : Type 0} (f : A → B) (o : Outcome A) → numberOf (onDone f o) ≡ numberOf o
-    same-number f (refused q) = refl
-    same-number f (done a) = refl
+pub open-number : (ml? : Bool) (w : Rows) (r : Reading) → Opens ml? w r → numberOf (readingSays r) ≡ numberOf (onDone countsOf (openSession ml? (inMemory w)))
+open-number ml? w r e = ap numberOf e
 
 pub step-number : (ml? : Bool) (w : Rows) (c : Call) → Meets ml? w c
     → numberOf (stepSays (c .answered)) ≡ numberOf (stepInMemory ml? (c .asked) (inMemory w))
