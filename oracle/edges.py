@@ -1,18 +1,17 @@
 #!/usr/bin/env python3
-"""Holds the proved list of the scope's examples against the requests that the program `ask` is run on.
+"""Holds the proved list of the scope's examples against the frozen requests that the program `ask` is run on.
 
     python3 oracle/edges.py
 
 Each row of crates/edges/specs/Edges.antt is read as the request that it stands for. The request must be one of
-crates/ask/stdin, its answer there the row's, and each letter from (a) to (l) must have a row. So what is proved of
-the definitions and what the program is run on are the same examples.
+oracle/frozen, its answer there the row's, and each letter from (a) to (l) must have a row. So what is proved of
+the definitions and what the library is asked are the same examples.
 """
 import os
 import re
 import string
 import sys
 
-import compare
 import freeze
 import lines as p
 import rust
@@ -114,7 +113,7 @@ def faults_of(rows, asked):
     yield from (f"({letter}) has no row" for letter in LETTERS if letter not in letters)
     for letter, line, answer in rows:
         if line not in asked:
-            yield f"({letter}) is not among the requests of crates/ask: {line}"
+            yield f"({letter}) is not among the frozen requests: {line}"
         elif asked[line] != answer:
             yield f"({letter}) is answered {asked[line]!r} and not {answer!r}: {line}"
 
@@ -122,8 +121,7 @@ def faults_of(rows, asked):
 def main():
     with open(EDGES, encoding="utf-8") as file:
         rows = list(rows_of(file.read()))
-    requests, answers = (compare.read_lines(os.path.join(freeze.ASK, name)) for name in ("stdin", "stdout"))
-    found = list(faults_of(rows, dict(zip(requests, answers))))
+    found = list(faults_of(rows, dict(freeze.frozen_pairs())))
     for fault in found:
         print(fault)
     print(f"the scope's examples: {len(rows)} rows, {len(found)} faults")

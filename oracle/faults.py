@@ -180,23 +180,28 @@ def with_fault(text, name, old, new):
     return text.replace(old, new)
 
 
-def modest_list():
-    """Requests of every call and the Rust's answers. The boundary ones are large, so only one call's are here."""
-    program = rust.driver()
-    pairs = []
+def modest_lists():
+    """Requests of every call. The boundary ones are large, so only one call's are here."""
     for call in generate.CALLS:
         sections = generate.sections(call, SEED, SHARE)
-        requests = sections["short"] + sections["random"] + (sections["boundary"] if call == "REST" else [])
-        pairs += zip(requests, rust.answers(program, requests))
-    return pairs
+        yield sections["short"] + sections["random"] + (sections["boundary"] if call == "REST" else [])
 
 
-def noticed_by_rust(model, pairs):
-    """The first request on which the model and the Rust disagree."""
-    for line, rust_answer in pairs:
-        try:
-            compare.judge(line, rust_answer, model)
-        except compare.Disagreement:
+def disagreement(program, pairs):
+    """The first request whose answer the Rust disagrees with."""
+    verdicts = rust.verdicts(program, *zip(*pairs)) if pairs else []
+    for (line, _), verdict in zip(pairs, verdicts):
+        if verdict.startswith(compare.DISAGREE):
+            return line
+    return None
+
+
+def noticed_by_rust(program, model, lists):
+    """The same of a faulty model, which is only asked where it answers otherwise than the sound one."""
+    for pairs in lists:
+        changed = [(line, given) for line, answer in pairs if (given := model.answer(line)) != answer]
+        line = disagreement(program, changed)
+        if line:
             return line
     return None
 
@@ -210,14 +215,15 @@ def noticed_as_stated(model):
 
 
 def main():
-    text, pairs = model_text(), modest_list()
+    program, text = rust.driver(), model_text()
     sound = model_with(text)
-    if noticed_by_rust(sound, pairs) or noticed_as_stated(sound):
+    lists = [[(line, sound.answer(line)) for line in requests] for requests in modest_lists()]
+    if any(disagreement(program, pairs) for pairs in lists) or noticed_as_stated(sound):
         sys.exit("the model without a fault does not agree; run compare.py")
     noticed = 0
     for name, old, new in FAULTS:
         model = model_with(with_fault(text, name, old, new), name)
-        line, statement = noticed_by_rust(model, pairs), noticed_as_stated(model)
+        line, statement = noticed_by_rust(program, model, lists), noticed_as_stated(model)
         noticed += bool(line or statement)
         ways = [f"the Rust at {compare.shorten(line)!r}"] if line else []
         ways += [f"the stated '{statement}'"] if statement else []

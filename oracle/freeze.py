@@ -2,12 +2,10 @@
 """Freezes requests and their answers, so that a gate can hold the program `ask` against them.
 
     python3 oracle/freeze.py            # writes oracle/frozen/CALL.requests and CALL.answers for every call
-    python3 oracle/freeze.py --ask      # writes crates/ask/stdin and stdout from the lists of the answered calls
-    python3 oracle/freeze.py --check    # writes nothing: are the lists and crates/ask as they would be written?
+    python3 oracle/freeze.py --check    # writes nothing: are the frozen answers still the model's?
 
 The answers are the model's; while freezing, the Rust is held against each of them, and nothing is written where
-the two disagree. The calls that `ask` answers so far stand in oracle/answered.txt, one a line.
-`--check` takes no Rust: it asks the model for each answer again.
+the two disagree. `--check` takes no Rust: it asks the model for each answer again.
 """
 import argparse
 import collections
@@ -22,8 +20,6 @@ import rust
 
 SEED = 20_260
 FROZEN = os.path.join(rust.HERE, "frozen")
-ANSWERED = os.path.join(rust.HERE, "answered.txt")
-ASK = os.path.join(rust.HERE, "..", "crates", "ask")
 
 # At most so many requests of each section; a section that is not named comes whole.
 MOST = {"short": 400, "random": 600, "malformed": 70}
@@ -104,8 +100,7 @@ def freeze():
     frozen = {call: list_for(call) for call in generate.CALLS}
     counts = compare.Counts()
     for requests in frozen.values():
-        for line, rust_answer in zip(requests, rust.answers(program, requests)):
-            counts.add(line, rust_answer, model)
+        counts.add_all(program, requests, model)
     compare.print_disagreements(counts.disagreements, sys.stdout)
     unlike = compare.not_as_stated(model, generate.CALLS)
     compare.print_disagreements(unlike, sys.stdout)
@@ -118,66 +113,39 @@ def freeze():
     counts.print_table(sys.stdout)
 
 
-def answered_calls():
-    with open(ANSWERED, encoding="ascii") as file:
-        return generate.call_list(",".join(file.read().split()))
+def frozen_lists(call):
+    """The frozen requests of a call, and their answers."""
+    return [compare.read_lines(path_of(call, kind)) for kind in ("requests", "answers")]
 
 
-def joined(kind, calls):
-    found = []
-    for call in calls:
-        found += compare.read_lines(path_of(call, kind))
-    return found
-
-
-def write_ask():
-    calls = answered_calls()
-    write_lines(os.path.join(ASK, "stdin"), joined("requests", calls))
-    write_lines(os.path.join(ASK, "stdout"), joined("answers", calls))
-    print(f"crates/ask: {len(joined('requests', calls)):,} requests of {', '.join(calls)}")
+def frozen_pairs():
+    """Every frozen request with its answer."""
+    for call in generate.CALLS:
+        yield from zip(*frozen_lists(call), strict=True)
 
 
 def faults_of_list(call):
-    requests, answers = (compare.read_lines(path_of(call, kind)) for kind in ("requests", "answers"))
+    requests, answers = frozen_lists(call)
     if len(requests) != len(answers):
         return [f"{call}: {len(requests)} requests, {len(answers)} answers"]
     wrong = [line for line, answer in zip(requests, answers) if model.answer(line) != answer]
     return [f"{call}: the frozen answer is not the model's: {compare.shorten(line)}" for line in wrong]
 
 
-def is_joined(name, kind, calls):
-    """Whether a file of crates/ask holds the joined lists of the calls."""
-    path = os.path.join(ASK, name)
-    return os.path.isfile(path) and compare.read_lines(path) == joined(kind, calls)
-
-
-def faults_of_ask():
-    calls = answered_calls()
-    return [
-        f"crates/ask/{name} is not the joined lists of {', '.join(calls)}"
-        for name, kind in (("stdin", "requests"), ("stdout", "answers"))
-        if not is_joined(name, kind, calls)
-    ]
-
-
 def check():
-    found = [fault for call in generate.CALLS for fault in faults_of_list(call)] + faults_of_ask()
+    found = [fault for call in generate.CALLS for fault in faults_of_list(call)]
     for fault in found[: compare.SHOWN]:
         print(fault)
-    count = len(joined("requests", generate.CALLS))
+    count = sum(len(frozen_lists(call)[0]) for call in generate.CALLS)
     print(f"frozen lists: {count:,} requests of {len(generate.CALLS)} calls, {len(found)} faults")
     sys.exit(bool(found))
 
 
 def main():
     parser = argparse.ArgumentParser(description=__doc__, formatter_class=argparse.RawDescriptionHelpFormatter)
-    mode = parser.add_mutually_exclusive_group()
-    mode.add_argument("--ask", action="store_true", help="write crates/ask/stdin and stdout")
-    mode.add_argument("--check", action="store_true", help="check the lists and crates/ask, writing nothing")
+    parser.add_argument("--check", action="store_true", help="check the lists, writing nothing")
     options = parser.parse_args()
-    if options.ask:
-        write_ask()
-    elif options.check:
+    if options.check:
         check()
     else:
         freeze()

@@ -33,18 +33,6 @@ def tab(name, *fields, room=None):
     return "\t".join(parts)
 
 
-def without_room(line):
-    """The same request with ample room."""
-    head, _, last = line.rpartition("\t")
-    return head if last.startswith("@") else line
-
-
-def room_of(line):
-    """The numbers of the room field, or None."""
-    last = line.rpartition("\t")[2]
-    return [int(size) for size in last[1:].split(",")] if last.startswith("@") else None
-
-
 def columns(inf, unc, con):
     return row(inf), listed(unc), listed(con)
 

@@ -1,4 +1,5 @@
 """Builds and runs the Rust driver, or says plainly what is missing for it."""
+import functools
 import os
 import shutil
 import subprocess
@@ -19,6 +20,7 @@ def cargo_is_too_old():
     return tuple(map(int, version.split(".")[:2])) < (1, 85)
 
 
+@functools.cache
 def missing():
     """What the driver lacks, as a sentence, or None."""
     if shutil.which("cargo") is None:
@@ -31,6 +33,7 @@ def missing():
     return None
 
 
+@functools.cache
 def driver():
     """The path of the built driver; leaves with a sentence where it can't be built."""
     lack = missing()
@@ -44,11 +47,12 @@ def driver():
     return os.path.join(folder, "release", "fgumi-oracle")
 
 
-def answers(program, requests):
-    """The program's answer lines to a list of request lines."""
-    given = "".join(line + "\n" for line in requests).encode("latin-1")
-    found = subprocess.run([program], input=given, stdout=subprocess.PIPE, check=True).stdout
+def verdicts(program, requests, answers):
+    """The driver's verdict on each answer: `=`, `~` and the name of a difference, or `!` and the Rust's answer."""
+    pairs = zip(requests, answers, strict=True)
+    given = "".join(f"{line}\n{answer}\n" for line, answer in pairs).encode("latin-1")
+    found = subprocess.run([program, "judge"], input=given, stdout=subprocess.PIPE, check=True).stdout
     lines = found.decode("latin-1").split("\n")
     if lines.pop() != "" or len(lines) != len(requests):
-        raise RuntimeError(f"{program} gave {len(lines)} answers to {len(requests)} requests")
+        raise RuntimeError(f"{program} gave {len(lines)} verdicts on {len(requests)} requests")
     return lines

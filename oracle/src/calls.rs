@@ -2,6 +2,7 @@
 
 use crate::MethylationMode;
 use crate::exits;
+use crate::form::Request;
 use crate::methylation::{
     ConversionPattern, MethylationAnnotation, MethylationEvidence, RefBaseProvider,
     annotate_simplex_methylation, build_mm_ml_tags, build_mm_tag_no_ml, duplex_methylation_tags,
@@ -19,27 +20,35 @@ use crate::vanilla_caller::SourceRead;
 use fgumi_raw_bam::{RawTagsEditor, SamTag, aux_data_slice, find_array_tag, find_string_tag, new_record};
 use noodles::sam::alignment::record::cigar::op::Kind;
 
-/// A query beyond this isn't put to the Rust, which would take gigabytes for 268435455M.
-const LARGEST_QUERY: usize = 100_000;
-/// Calls are derived by one run for each group and place, so only where their product is small.
-const MOST_RUNS_FOR_CALLS: usize = 4_096;
 /// Derived calls are told apart by ML values that all differ.
 const MOST_ML_FOR_CALLS: usize = 255;
 
+/// What the driver puts to the Rust, and for what it makes further runs, to find out what the Rust does not say.
+#[derive(Clone, Copy)]
+pub struct Effort {
+    /// A query or consensus beyond this isn't put to the Rust, which would take gigabytes for 268435455M.
+    largest_query: usize,
+    /// A refusal's number is looked for in MM of at most so many bytes: it costs runs in the square of them.
+    pub longest_numbered: usize,
+    /// Calls are derived by one run for each group and place, so only where their product is no more.
+    most_runs_for_calls: usize,
+}
+
+pub const WHOLE: Effort =
+    Effort { largest_query: 100_000, longest_numbered: 400, most_runs_for_calls: 4_096 };
+pub const QUICK: Effort = Effort { largest_query: 16_000, longest_numbered: 0, most_runs_for_calls: 0 };
+
 /// The Rust's answer to a request; nothing where the request can't be put to it.
 #[must_use]
-pub fn answer(line: &str) -> Option<Reply> {
-    let mut fields: Vec<&str> = line.split('\t').collect();
-    if fields.last().is_some_and(|last| last.starts_with('@')) {
-        fields.pop();
-    }
-    let (&call, fields) = fields.split_first()?;
-    match call {
-        "Q" => positions(fields),
+pub fn answer(line: &str, effort: Effort) -> Option<Reply> {
+    let request = Request::of(line);
+    let fields = &request.fields[..];
+    match request.name {
+        "Q" => positions(fields, effort),
         "CPG" => cpg(fields),
         "PAT" => pattern_of_flags(fields),
         "FETCH" => fetch(fields),
-        "ANN" => annotate(fields),
+        "ANN" => annotate(fields, effort),
         "GATE" => gate(fields),
         "TRUNC" => truncate(fields),
         "CNT" => counts(fields),
@@ -47,12 +56,12 @@ pub fn answer(line: &str) -> Option<Reply> {
         "BUILD" => build(fields),
         "BUILDMM" => build_text(fields),
         "DUP" => duplex(fields),
-        "CALLS" => read_calls(fields),
-        "TALLY" => tally(fields),
-        "MASK" => mask(fields),
-        "DROP" => drop_places(fields),
-        "CUT" => cut(fields),
-        "STEP" => step(fields),
+        "CALLS" => read_calls(fields, effort),
+        "TALLY" => tally(fields, effort),
+        "MASK" => mask(fields, effort),
+        "DROP" => drop_places(fields, effort),
+        "CUT" => cut(fields, effort),
+        "STEP" => step(fields, effort),
         _ => None,
     }
 }
@@ -80,11 +89,11 @@ fn operation(word: &str) -> Option<(Kind, usize)> {
     Some((kind, (word >> 4) as usize))
 }
 
-fn positions(fields: &[&str]) -> Option<Reply> {
+fn positions(fields: &[&str], effort: Effort) -> Option<Reply> {
     let &[words, start, reverse] = fields else { return None };
     let cigar = list(words, operation)?;
     let query: usize = cigar.iter().filter(|(k, _)| k.consumes_read()).map(|(_, n)| n).sum();
-    if query > LARGEST_QUERY {
+    if query > effort.largest_query {
         return None;
     }
     let places = query_to_ref_positions(&cigar, signed(start)?, yes_or_no(reverse)?);
@@ -200,13 +209,13 @@ fn aligned_by_read(reads: &[SourceRead], rows: Vec<Vec<u8>>) -> Vec<Vec<bool>> {
         .collect()
 }
 
-fn annotate(fields: &[&str]) -> Option<Reply> {
+fn annotate(fields: &[&str], effort: Effort) -> Option<Reply> {
     let &[length, letter, count_all, reference_row, reads, aligned] = fields else { return None };
     let reference_row = list(reference_row, |base| absent_or(base, byte))?;
     let reads = list(reads, |read| Some(SourceRead { bases: bytes(read)? }))?;
     let aligned = aligned_by_read(&reads, list(aligned, bytes)?);
     let length = size(length)?;
-    if length > LARGEST_QUERY {
+    if length > effort.largest_query {
         return None;
     }
     columns(&annotate_simplex_methylation(
@@ -302,7 +311,10 @@ fn tag_fields(mm: &str, ml: &str) -> Option<(String, Option<Vec<u8>>)> {
 }
 
 /// None for a tag, with its number where runs on the tag's beginnings tell it.
-fn refused(mm: &str, ml: Option<&[u8]>, seq: &[u8], dropped: &[usize]) -> Option<Reply> {
+fn refused(mm: &str, ml: Option<&[u8]>, seq: &[u8], dropped: &[usize], effort: Effort) -> Option<Reply> {
+    if mm.len() > effort.longest_numbered {
+        return Some(Reply::Refused);
+    }
     Some(exits::number(mm, ml, seq, dropped).map_or(Reply::Refused, Reply::RefusedWith))
 }
 
@@ -354,14 +366,14 @@ fn derived_calls(mm: &str, ml: Option<&[u8]>, seq: &[u8]) -> Option<Vec<String>>
     Some(calls)
 }
 
-fn read_calls(fields: &[&str]) -> Option<Reply> {
+fn read_calls(fields: &[&str], effort: Effort) -> Option<Reply> {
     let &[mm, ml, seq] = fields else { return None };
     let ((mm, ml), seq) = (tag_fields(mm, ml)?, bytes(seq)?);
     if !accepted(&mm, ml.as_deref(), &seq) {
-        return refused(&mm, ml.as_deref(), &seq, &[]);
+        return refused(&mm, ml.as_deref(), &seq, &[], effort);
     }
     let groups = mm.matches(';').count();
-    let short = groups * seq.len() <= MOST_RUNS_FOR_CALLS
+    let short = groups * seq.len() <= effort.most_runs_for_calls
         && ml.as_ref().is_none_or(|ml| ml.len() <= MOST_ML_FOR_CALLS);
     match if short { derived_calls(&mm, ml.as_deref(), &seq) } else { None } {
         Some(calls) => done([groups.to_string(), show_list(&calls, String::clone)]),
@@ -369,12 +381,56 @@ fn read_calls(fields: &[&str]) -> Option<Reply> {
     }
 }
 
-fn tally(fields: &[&str]) -> Option<Reply> {
+/// Whether an answer's list has exactly the calls of a tag that the Rust accepts.
+#[must_use]
+pub fn are_calls(fields: &[&str], listed: &str) -> bool {
+    confirmed_calls(fields, listed).is_some_and(|calls| show_list(&calls, String::clone) == listed)
+}
+
+/// The calls of a tag that the Rust accepts, if the places and counts of a list are theirs.
+fn confirmed_calls(fields: &[&str], listed: &str) -> Option<Vec<String>> {
+    let &[mm, ml, seq] = fields else { return None };
+    let ((mm, ml), seq) = (tag_fields(mm, ml)?, bytes(seq)?);
+    let mut left = list(listed, place_and_count)?.into_iter();
+    let (mut calls, mut taken) = (Vec::new(), 0);
+    for (group, text) in mm.strip_suffix(';')?.split(';').enumerate().filter(|(_, text)| text.contains(',')) {
+        let own: Vec<(usize, usize)> = left.by_ref().take(text.matches(',').count()).collect();
+        let places: Vec<usize> = own.iter().map(|&(place, _)| place).collect();
+        let count = own.first()?.1;
+        if count > ml.as_ref().map_or(0, Vec::len)
+            || !has_calls(text, &places, ml.as_ref().map(|_| count), &seq)
+        {
+            return None;
+        }
+        for place in places {
+            calls.push(format!("{}:{place}:{taken}:{count}", group + 1));
+            taken += count;
+        }
+    }
+    left.next().is_none().then_some(calls)
+}
+
+fn place_and_count(call: &str) -> Option<(usize, usize)> {
+    let numbers = call.split(':').map(size).collect::<Option<Vec<_>>>()?;
+    let &[_, place, _, count] = &numbers[..] else { return None };
+    Some((place, count))
+}
+
+/// Whether a group has its calls at these places, as many as it has entries, with so many ML values each: then
+/// dropping them leaves no entry.
+fn has_calls(group: &str, places: &[usize], count: Option<usize>, seq: &[u8]) -> bool {
+    let text = droppable(group);
+    let values = count.map(|count| vec![0; count * places.len()]);
+    let left = drop_modifications_at(&text, values.as_deref(), seq, places);
+    places.is_sorted_by(|first, second| first < second) && left.is_some_and(|(left, _)| !left.contains(','))
+}
+
+fn tally(fields: &[&str], effort: Effort) -> Option<Reply> {
     let &[mm, ml, seq] = fields else { return None };
     let (mm, ml) = tag_fields(mm, ml)?;
     let (ml, seq) = (ml?, bytes(seq)?);
     if !accepted(&mm, Some(&ml), &seq) {
-        return refused(&mm, Some(&ml), &seq, &[]);
+        return refused(&mm, Some(&ml), &seq, &[], effort);
     }
     let above = ml.iter().filter(|&&value| value >= 128).count();
     done([above.to_string(), (ml.len() - above).to_string()])
@@ -387,24 +443,24 @@ fn edited(ml_given: bool, mm: &str, ml: &[u8]) -> Option<Reply> {
     done([show_bytes(mm.as_bytes()), ml])
 }
 
-fn mask(fields: &[&str]) -> Option<Reply> {
+fn mask(fields: &[&str], effort: Effort) -> Option<Reply> {
     let &[mm, ml, before, after] = fields else { return None };
     let (mm, ml) = tag_fields(mm, ml)?;
     let (before, after) = (bytes(before)?, bytes(after)?);
     match drop_masked_modifications(&mm, ml.as_deref(), &before, &after) {
         Some((new_mm, new_ml)) => edited(ml.is_some(), &new_mm, &new_ml),
         None if before.len() != after.len() => Some(Reply::Refused),
-        None => refused(&mm, ml.as_deref(), &before, &[]),
+        None => refused(&mm, ml.as_deref(), &before, &[], effort),
     }
 }
 
-fn drop_places(fields: &[&str]) -> Option<Reply> {
+fn drop_places(fields: &[&str], effort: Effort) -> Option<Reply> {
     let &[mm, ml, seq, places] = fields else { return None };
     let (mm, ml) = tag_fields(mm, ml)?;
     let (seq, places) = (bytes(seq)?, list(places, size)?);
     match drop_modifications_at(&mm, ml.as_deref(), &seq, &places) {
         Some((new_mm, new_ml)) => edited(ml.is_some(), &new_mm, &new_ml),
-        None => refused(&mm, ml.as_deref(), &seq, &places),
+        None => refused(&mm, ml.as_deref(), &seq, &places, effort),
     }
 }
 
@@ -441,20 +497,20 @@ fn trim(mm: &[u8], ml: Option<&[u8]>, before: &[u8], after: &[u8], start: Option
 }
 
 /// None for a tag of a record, which need not be text.
-fn refused_bytes(mm: &[u8], ml: Option<&[u8]>, seq: &[u8]) -> Option<Reply> {
+fn refused_bytes(mm: &[u8], ml: Option<&[u8]>, seq: &[u8], effort: Effort) -> Option<Reply> {
     match std::str::from_utf8(mm) {
-        Ok(mm) => refused(mm, ml, seq, &[]),
+        Ok(mm) => refused(mm, ml, seq, &[], effort),
         Err(_) => Some(Reply::Refused),
     }
 }
 
-fn cut(fields: &[&str]) -> Option<Reply> {
+fn cut(fields: &[&str], effort: Effort) -> Option<Reply> {
     let &[mm, ml, before, after, start] = fields else { return None };
     let (mm, ml) = (bytes(mm)?, absent_or(ml, bytes)?);
     let (before, start) = (bytes(before)?, absent_or(start, size)?);
     match trim(&mm, ml.as_deref(), &before, &bytes(after)?, start) {
         Trimmed::Edited(mm, ml) => done([show_bytes(&mm), show_absent_or(ml.as_ref(), |ml| show_bytes(ml))]),
-        Trimmed::Refused => refused_bytes(&mm, ml.as_deref(), &before),
+        Trimmed::Refused => refused_bytes(&mm, ml.as_deref(), &before, effort),
         Trimmed::NoWindow => Some(Reply::NoWindow),
         Trimmed::Same => Some(Reply::Same),
     }
@@ -511,7 +567,7 @@ impl Buffers {
     }
 }
 
-fn mask_step(buffers: Buffers, places: &[usize]) -> Option<Reply> {
+fn mask_step(buffers: Buffers, places: &[usize], effort: Effort) -> Option<Reply> {
     let mut after = buffers.seq().to_vec();
     for &place in places {
         if let Some(base) = after.get_mut(place) {
@@ -521,41 +577,41 @@ fn mask_step(buffers: Buffers, places: &[usize]) -> Option<Reply> {
     let mm = std::str::from_utf8(buffers.mm()).ok()?;
     match drop_masked_modifications(mm, buffers.ml(), buffers.seq(), &after) {
         Some((mm, ml)) => buffers.write(&after, mm.as_bytes(), &ml),
-        None => refused(mm, buffers.ml(), buffers.seq(), &[]),
+        None => refused(mm, buffers.ml(), buffers.seq(), &[], effort),
     }
 }
 
-fn drop_step(buffers: Buffers, places: &[usize]) -> Option<Reply> {
+fn drop_step(buffers: Buffers, places: &[usize], effort: Effort) -> Option<Reply> {
     let mm = std::str::from_utf8(buffers.mm()).ok()?;
     match drop_modifications_at(mm, buffers.ml(), buffers.seq(), places) {
         Some((mm, ml)) => {
             let seq = buffers.seq().to_vec();
             buffers.write(&seq, mm.as_bytes(), &ml)
         }
-        None => refused(mm, buffers.ml(), buffers.seq(), places),
+        None => refused(mm, buffers.ml(), buffers.seq(), places, effort),
     }
 }
 
-fn cut_step(buffers: Buffers, front: usize, back: usize) -> Option<Reply> {
+fn cut_step(buffers: Buffers, front: usize, back: usize, effort: Effort) -> Option<Reply> {
     // A cut of more than there is has no SEQ after it that could be put to the Rust.
     let end = buffers.seq().len().checked_sub(back)?;
     let after = buffers.seq().get(front..end)?.to_vec();
     match trim(buffers.mm(), buffers.ml(), buffers.seq(), &after, Some(front)) {
         Trimmed::Edited(mm, ml) => buffers.write(&after, &mm, &ml.unwrap_or_default()),
-        Trimmed::Refused => refused_bytes(buffers.mm(), buffers.ml(), buffers.seq()),
+        Trimmed::Refused => refused_bytes(buffers.mm(), buffers.ml(), buffers.seq(), effort),
         Trimmed::NoWindow => Some(Reply::NoWindow),
         Trimmed::Same => Some(Reply::Same),
     }
 }
 
-fn step(fields: &[&str]) -> Option<Reply> {
+fn step(fields: &[&str], effort: Effort) -> Option<Reply> {
     let &[seq, mm, ml, lengths, kind, arguments] = fields else { return None };
     let buffers = Buffers::read(seq, mm, ml, lengths)?;
     let arguments = list(arguments, size)?;
     match (kind, &arguments[..]) {
-        ("MK", places) => mask_step(buffers, places),
-        ("DR", places) => drop_step(buffers, places),
-        ("CU", &[front, back]) => cut_step(buffers, front, back),
+        ("MK", places) => mask_step(buffers, places, effort),
+        ("DR", places) => drop_step(buffers, places, effort),
+        ("CU", &[front, back]) => cut_step(buffers, front, back, effort),
         _ => None,
     }
 }

@@ -6,9 +6,6 @@
 
 use crate::modifications::drop_modifications_at;
 
-/// Beyond this length a refusal's number isn't looked for: a text costs runs in the square of its length.
-const LONGEST_TEXT: usize = 400;
-
 fn accepted(mm: &str, ml: Option<&[u8]>, seq: &[u8], dropped: &[usize]) -> bool {
     drop_modifications_at(mm, ml, seq, dropped).is_some()
 }
@@ -25,7 +22,7 @@ fn skip_exit(before: &str, header: &str, skip: &str, seq: &[u8]) -> u32 {
 /// The number of a refusal, where it can be found.
 #[must_use]
 pub fn number(mm: &str, ml: Option<&[u8]>, seq: &[u8], dropped: &[usize]) -> Option<u32> {
-    if !mm.is_ascii() || mm.len() > LONGEST_TEXT {
+    if !mm.is_ascii() {
         return None;
     }
     let Some(groups) = mm.strip_suffix(';') else { return Some(4) };

@@ -1,7 +1,5 @@
 //! The written form of requests and answers: bytes in hex, lists, decimals.
 
-use std::fmt::Write;
-
 /// What the Rust made of a request.
 pub enum Reply {
     Done(Vec<String>),
@@ -68,6 +66,13 @@ fn nibble(digit: u8) -> Option<u8> {
     }
 }
 
+/// Whether a field is lower-case hex, or `.` for none.
+#[must_use]
+pub fn is_bytes(field: &str) -> bool {
+    let hex = |&digit: &u8| nibble(digit).is_some();
+    field == "." || !field.is_empty() && field.len().is_multiple_of(2) && field.as_bytes().iter().all(hex)
+}
+
 /// Lower-case hex, `.` for none.
 #[must_use]
 pub fn bytes(field: &str) -> Option<Vec<u8>> {
@@ -101,9 +106,11 @@ pub fn show_bytes(bytes: &[u8]) -> String {
     if bytes.is_empty() {
         return ".".to_string();
     }
+    let digit = |half: u8| char::from(b"0123456789abcdef"[usize::from(half)]);
     let mut hex = String::with_capacity(2 * bytes.len());
     for byte in bytes {
-        write!(hex, "{byte:02x}").expect("a String takes all");
+        hex.push(digit(byte >> 4));
+        hex.push(digit(byte & 15));
     }
     hex
 }

@@ -1,0 +1,41 @@
+/* What the tries of the exports share: rows with given entries, and what is expected of a call. */
+#ifndef ASK_EXPORTS_H
+#define ASK_EXPORTS_H
+
+#include "../rows.h"
+#include "aquiledru.h"
+
+/* Rows with entries. */
+struct row *row_text(const char *text);
+struct row *row_bytes(size_t n, uint8_t each);
+struct row *row_u32(size_t n, uint32_t each);
+struct row *row_sizes(size_t n, const size_t *sizes);
+
+/* A byte that stands for yes, another one in each turn. */
+uint8_t yes(void);
+
+/* Each says on standard error what was not as expected, and the run ends with status 1. */
+void expect(const char *what, uint64_t got, uint64_t wanted);
+void expect_text(const char *what, struct row *r, size_t n, const char *wanted);
+
+/* A call that must return a number other than 0, or whose outputs are all empty, and must have changed nothing. */
+#define REFUSES(number, call) (rows_lend(), expect(#call, (call), (number)), expect("bytes changed by " #call, (uint64_t)rows_wrote(), 0))
+
+/* A call that must return 0. What it filled is then looked at, and KEPT says that it changed nothing else. */
+#define ACCEPTS(call) (rows_lend(), expect(#call, (call), AQL_DONE))
+#define KEPT(call) expect("bytes changed by " call, (uint64_t)rows_wrote(), 0)
+
+/* An array of numbers that an accepted call has written: entry k. */
+size_t said(struct row *sizes, size_t k);
+
+void try_small(void);
+void try_alignment(void);
+void try_evidence(void);
+void try_corners(void);
+void try_building(void);
+void try_reading(void);
+void try_rewriting(void);
+void try_session(void);
+void try_transcript(void);
+
+#endif

@@ -1,0 +1,112 @@
+/* `exports`: calls every export of the C library's archive in the ways that only C can: rows that are NULL, each output one entry short by itself, numbers
+ * that no enum or Bool of Rattle could hold, and as many bases as the domain takes. Each row stands against an untouchable page, behind it in one turn and
+ * before it in the next. tools/run-exports builds and starts it; its last line counts what was expected.
+ */
+#include "exports.h"
+
+static uint64_t expected;
+static int unexpected;
+
+static void say(int file, const char *text)
+{
+    write(file, text, strlen(text));
+}
+
+static void say_number(int file, uint64_t n)
+{
+    char digits[20];
+    size_t k = sizeof digits;
+    do {
+        digits[--k] = (char)('0' + n % 10);
+        n /= 10;
+    } while (n > 0);
+    write(file, digits + k, sizeof digits - k);
+}
+
+void expect(const char *what, uint64_t got, uint64_t wanted)
+{
+    expected++;
+    if (got == wanted)
+        return;
+    unexpected = 1;
+    say(STANDARD_ERROR, what);
+    say(STANDARD_ERROR, ": ");
+    say_number(STANDARD_ERROR, got);
+    say(STANDARD_ERROR, " and not ");
+    say_number(STANDARD_ERROR, wanted);
+    say(STANDARD_ERROR, ", in turn ");
+    say_number(STANDARD_ERROR, rows_turn());
+    say(STANDARD_ERROR, "\n");
+}
+
+void expect_text(const char *what, struct row *r, size_t n, const char *wanted)
+{
+    expect(what, n, strlen(wanted));
+    expect(what, row_fill(r, n) == strlen(wanted) && memcmp(r->bytes, wanted, r->filled) == 0, 1);
+}
+
+struct row *row_text(const char *text)
+{
+    struct row *r = row_of(1, strlen(text));
+    memcpy(r->bytes, text, r->n);
+    return r;
+}
+
+struct row *row_bytes(size_t n, uint8_t each)
+{
+    struct row *r = row_of(1, n);
+    memset(r->bytes, each, n);
+    return r;
+}
+
+struct row *row_u32(size_t n, uint32_t each)
+{
+    struct row *r = row_of(sizeof each, n);
+    size_t i;
+    for (i = 0; i < n; i++)
+        memcpy(r->bytes + i * sizeof each, &each, sizeof each);
+    return r;
+}
+
+struct row *row_sizes(size_t n, const size_t *sizes)
+{
+    struct row *r = row_of(sizeof *sizes, n);
+    memcpy(r->bytes, sizes, n * sizeof *sizes);
+    return r;
+}
+
+size_t said(struct row *sizes, size_t k)
+{
+    sizes->filled = sizes->n;
+    return as_size(sizes)[k];
+}
+
+uint8_t yes(void)
+{
+    static const uint8_t each[4] = {1, 2, 128, 255};
+    return each[rows_turn() / 4 % 4];
+}
+
+static void on_touch(int number)
+{
+    (void)number;
+    stop("exports: a call touched a byte outside its rows");
+}
+
+int main(void)
+{
+    static void (*const tries[])(void) = {try_small,   try_alignment, try_evidence,  try_building,  try_reading,
+                                          try_rewriting, try_session,  try_transcript, try_corners};
+    uint64_t turn;
+    size_t i;
+    signal(SIGSEGV, on_touch);
+    signal(SIGBUS, on_touch);
+    for (i = 0; i < sizeof tries / sizeof *tries; i++)
+        for (turn = 0; turn < 16; turn++) {
+            rows_begin(turn);
+            tries[i]();
+        }
+    say_number(STANDARD_OUTPUT, expected);
+    say(STANDARD_OUTPUT, unexpected ? " expectations, not all met\n" : " expectations, all met\n");
+    return unexpected;
+}

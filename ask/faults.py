@@ -1,0 +1,150 @@
+#!/usr/bin/env python3
+"""Puts faults into copies of the header and of the harness, one at a time, and asks whether each is noticed.
+
+    python3 ask/faults.py
+
+A fault of the header is what a lab would be misled by; a fault of the harness stands for a library that writes or reads outside
+a row, or writes where it refuses. Each is a change of a file's text that must apply exactly once. It is noticed by the compiler, by
+tools/check-header, by a frozen answer in one of four turns, or by the program `exports`. Ends with `N faults, N noticed`; the
+status is 1 where one is not noticed.
+"""
+import concurrent.futures
+import glob
+import os
+import shutil
+import subprocess
+import sys
+import tempfile
+
+HERE = os.path.dirname(os.path.abspath(__file__))
+ROOT = os.path.dirname(HERE)
+sys.path.insert(0, os.path.join(ROOT, "oracle"))
+import freeze  # noqa: E402
+import judge  # noqa: E402
+
+HEADER = "include/aquiledru.h"
+
+# Name, file, the words in it, the words put in their place.
+FAULTS = [
+    ("the header lacks a parameter", HEADER,
+     "const uint8_t *ml, size_t ml_len,\n                  size_t *above",
+     "const uint8_t *ml,\n                  size_t *above"),
+    ("the header exchanges two rows", HEADER,
+     "aql_check_tag(const uint8_t *seq, size_t seq_len, const uint8_t *mm, size_t mm_len",
+     "aql_check_tag(const uint8_t *mm, size_t mm_len, const uint8_t *seq, size_t seq_len"),
+    ("the header makes entries narrower", HEADER,
+     "uint32_t *call_groups", "uint16_t *call_groups"),
+    ("the header makes a length narrower", HEADER,
+     "aql_annotate_simplex_methylation(size_t consensus_len", "aql_annotate_simplex_methylation(uint32_t consensus_len"),
+    ("the header makes flags narrower", HEADER,
+     "uint8_t aql_pattern_letter(uint16_t read_flags)", "uint8_t aql_pattern_letter(uint8_t read_flags)"),
+    ("the header exchanges two of the duplex lengths", HEADER,
+     "AQL_DUPLEX_MM = 1,\n    AQL_DUPLEX_ML = 2", "AQL_DUPLEX_MM = 2,\n    AQL_DUPLEX_ML = 1"),
+    ("the header gives a number another value", HEADER,
+     "AQL_NO_ROOM = 12", "AQL_NO_ROOM = 14"),
+    ("the header gives a mode another value", HEADER,
+     "AQL_MODE_TAPS = 2", "AQL_MODE_TAPS = 3"),
+    ("the header allows one base more", HEADER,
+     "AQL_MAX_SEQ 16000u", "AQL_MAX_SEQ 16001u"),
+    ("the header's transcript has a byte less", HEADER,
+     "AQL_TRANSCRIPT_OUT 81925u", "AQL_TRANSCRIPT_OUT 81924u"),
+    ("a comment of the header leaves a number out", HEADER,
+     "Answers 0, 1 to 9, 11, 21.", "Answers 0, 1 to 9, 11."),
+    ("byte rows are lent one entry longer than they are", "ask/rows.h",
+     "#define U8(r) as_u8(r), (r)->n", "#define U8(r) as_u8(r), (r)->n + 1"),
+    ("rows of 32 bits are lent one entry longer than they are", "ask/rows.h",
+     "#define U32(r) as_u32(r), (r)->n", "#define U32(r) as_u32(r), (r)->n + 1"),
+    ("rows of 16 bits are lent one entry longer than they are", "ask/rows.h",
+     "#define I16(r) as_i16(r), (r)->n", "#define I16(r) as_i16(r), (r)->n + 1"),
+    ("rows of 64 bits are lent one entry longer than they are", "ask/rows.h",
+     "#define I64(r) as_i64(r), (r)->n", "#define I64(r) as_i64(r), (r)->n + 1"),
+    ("an edit writes one byte past its row", "ask/rewriting.c",
+     "    if (!answered(number))\n        return;\n    put_bytes(t.mm_out",
+     "    t.mm_out->bytes[t.mm_out->n] ^= 1;\n    if (!answered(number))\n        return;\n    put_bytes(t.mm_out"),
+    ("an edit writes one byte before its row", "ask/rewriting.c",
+     "    if (!answered(number))\n        return;\n    put_bytes(t.mm_out",
+     "    t.mm_out->bytes[-1] ^= 1;\n    if (!answered(number))\n        return;\n    put_bytes(t.mm_out"),
+    ("a refused edit has written", "ask/rewriting.c",
+     "    if (!answered(number))\n        return;\n    put_bytes(t.mm_out",
+     "    if (number && t.mm_out->n)\n        t.mm_out->bytes[0] ^= 1;\n    if (!answered(number))\n        return;\n    put_bytes(t.mm_out"),
+    ("a refused edit has written a length", "ask/rewriting.c",
+     "    if (!answered(number))\n        return;\n    put_bytes(t.mm_out",
+     "    as_size(t.mm_len)[0] ^= number != 0;\n    if (!answered(number))\n        return;\n    put_bytes(t.mm_out"),
+    ("an edit writes past its answer, within its row", "ask/rewriting.c",
+     "    put_bytes(t.mm_out, written(t.mm_len, 0));",
+     "    put_bytes(t.mm_out, written(t.mm_len, 0));\n    if (t.mm_out->filled < t.mm_out->n)\n        t.mm_out->bytes[t.mm_out->filled] ^= 1;"),
+    ("an edit changes a row that it may only read", "ask/rewriting.c",
+     "    if (!answered(number))\n        return;\n    put_bytes(t.mm_out",
+     "    if (t.mm->n)\n        t.mm->bytes[0] ^= 1;\n    if (!answered(number))\n        return;\n    put_bytes(t.mm_out"),
+    ("a step reads one byte past its row", "ask/session.c",
+     "    if (!answered(number))", "    number ^= *(volatile uint8_t *)(mm->bytes + mm->n) & 0;\n    if (!answered(number))"),
+    ("a step reads one byte before its row", "ask/session.c",
+     "    if (!answered(number))", "    number ^= *(volatile uint8_t *)(mm->bytes - 1) & 0;\n    if (!answered(number))"),
+    ("a step without ML looks at it", "ask/session.c",
+     "    if (!answered(number))", "    number ^= ml->n ? *(volatile uint8_t *)ml->bytes & 0 : 0;\n    if (!answered(number))"),
+]
+
+
+def copied(work):
+    for folder in ("ask", "include"):
+        shutil.copytree(os.path.join(ROOT, folder), os.path.join(work, folder))
+
+
+def put_in(work, name, file, old, new):
+    path = os.path.join(work, file)
+    with open(path, encoding="utf-8") as source:
+        text = source.read()
+    if text.count(old) != 1:
+        sys.exit(f"the fault '{name}' applies {text.count(old)} times, not once")
+    with open(path, "w", encoding="utf-8") as target:
+        target.write(text.replace(old, new))
+
+
+def ran(work, *words):
+    """Whether a command ends well; the copy's header stands for the project's."""
+    environment = {**os.environ, "AQUILEDRU_H": os.path.join(work, "include")}
+    return subprocess.run(words, cwd=work, env=environment, stdout=subprocess.DEVNULL, stderr=subprocess.DEVNULL, check=False).returncode == 0
+
+
+def built(work, program, *patterns):
+    sources = [path for pattern in patterns for path in sorted(glob.glob(os.path.join(work, pattern)))]
+    return ran(work, os.path.join(ROOT, "tools", "kit-cc"), os.path.join(work, program), *sources)
+
+
+def noticed(command, work):
+    """Where the fault of a copy is noticed, in words."""
+    if not ran(work, sys.executable, os.path.join(ROOT, "tools", "check-header"), os.path.join(work, "include")):
+        yield "check-header"
+    if not built(work, "asked", "ask/*.c"):
+        yield "the compiler"
+        return
+    asked = [*command[:-1], os.path.join(work, "asked")]
+    requests, wanted = zip(*freeze.frozen_pairs())
+    wrong = sum(len(judge.unlike(requests, judge.one_part(asked, requests, turn), wanted)) for turn in judge.TURNS)
+    if wrong:
+        yield f"{wrong:,} frozen answers"
+    if not built(work, "exports", "ask/rows.c", "ask/exports/*.c"):
+        yield "the compiler, of exports"
+    elif not ran(work, *command[:-1], os.path.join(work, "exports")):
+        yield "exports"
+
+
+def tried(command, fault):
+    with tempfile.TemporaryDirectory() as work:
+        copied(work)
+        put_in(work, *fault)
+        return list(noticed(command, work))
+
+
+def main():
+    command = judge.ask_command()
+    with concurrent.futures.ThreadPoolExecutor(judge.PROCESSORS) as pool:
+        found = list(pool.map(lambda fault: tried(command, fault), FAULTS))
+    for (name, *_), ways in zip(FAULTS, found):
+        print(f"{name}: " + ("noticed by " + ", ".join(ways) if ways else "NOT NOTICED"))
+    print(f"{len(FAULTS)} faults, {sum(map(bool, found))} noticed")
+    sys.exit(not all(found))
+
+
+if __name__ == "__main__":
+    main()

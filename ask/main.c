@@ -1,0 +1,192 @@
+/* `ask`: answers requests on standard input, one a line, through the C library's archive, so that what labs link can be held against the Rust, a model, or
+ * anybody's own cases. oracle/README.md describes the requests; tools/ask builds and starts it.
+ *
+ * An argument is the number of the first turn: it decides where the untouchable page stands (rows.h), which rows without entries are NULL, and the bits
+ * that a call must not look at. Each request is one turn. The run ends with status 70 where a call touches that page.
+ */
+#include "calls.h"
+#include "reply.h"
+
+struct call {
+    const char *name;
+    size_t least, most; /* fields */
+    size_t rooms;       /* numbers of room that a request may lend */
+    void (*ask)(struct request *q);
+};
+
+static const struct call calls[] = {
+    {"Q", 3, 3, 1, ask_q},
+    {"CPG", 3, 3, 0, ask_cpg},
+    {"PAT", 1, 1, 0, ask_pat},
+    {"FETCH", 2, 2, 1, ask_fetch},
+    {"ANN", 6, 6, 1, ask_ann},
+    {"GATE", 4, 4, 0, ask_gate},
+    {"TRUNC", 5, 5, 1, ask_trunc},
+    {"CNT", 4, 4, 1, ask_cnt},
+    {"REST", 3, 3, 0, ask_rest},
+    {"BUILD", 6, 6, 2, ask_build},
+    {"BUILDMM", 6, 6, 1, ask_buildmm},
+    {"DUP", 2, 14, 2, ask_dup},
+    {"CALLS", 3, 3, 1, ask_calls},
+    {"TALLY", 3, 3, 0, ask_tally},
+    {"MASK", 4, 4, 2, ask_mask},
+    {"DROP", 4, 4, 2, ask_drop},
+    {"CUT", 5, 5, 2, ask_cut},
+    {"STEP", 6, 6, 0, ask_step},
+};
+
+/* ---- One request */
+
+/* Takes a line apart at its tabs; the first part is the name. */
+static void split(const uint8_t *line, size_t n, struct field *name, struct request *q)
+{
+    size_t from = 0, to, part;
+    q->malformed = 0;
+    q->differs = 0;
+    q->count = 0;
+    for (part = 0; from <= n; part++, from = to + 1) {
+        struct field f = {line + from, 0};
+        for (to = from; to < n && line[to] != '\t'; to++)
+            f.n++;
+        if (part == 0)
+            *name = f;
+        else if (q->count < MOST_FIELDS)
+            q->fields[q->count++] = f;
+        else
+            q->malformed = 1;
+    }
+}
+
+static const struct call *call_of(struct field name)
+{
+    size_t i;
+    for (i = 0; i < sizeof calls / sizeof *calls; i++)
+        if (name.n == strlen(calls[i].name) && memcmp(name.at, calls[i].name, name.n) == 0)
+            return &calls[i];
+    return NULL;
+}
+
+/* Takes the room off the end of the fields, where the request lends any. */
+static void read_rooms(struct request *q, size_t rooms)
+{
+    struct row *lent;
+    size_t i;
+    for (i = 0; i < MOST_ROOMS; i++)
+        q->rooms[i] = AMPLE;
+    if (q->count == 0 || q->fields[q->count - 1].n == 0 || q->fields[q->count - 1].at[0] != '@')
+        return;
+    q->fields[q->count - 1].at++;
+    q->fields[q->count - 1].n--;
+    lent = read_lengths(q, q->count - 1, rooms);
+    q->count--;
+    if (rooms == 0 || q->malformed)
+        q->malformed = 1;
+    else
+        memcpy(q->rooms, lent->bytes, rooms * sizeof *q->rooms);
+}
+
+static void respond(const uint8_t *line, size_t n, uint64_t turn)
+{
+    struct request q;
+    struct field name;
+    const struct call *call;
+    rows_begin(turn);
+    reply_begin();
+    split(line, n, &name, &q);
+    call = call_of(name);
+    if (call != NULL) {
+        read_rooms(&q, call->rooms);
+        if (q.count < call->least || q.count > call->most)
+            q.malformed = 1;
+    }
+    if (call != NULL && !q.malformed)
+        call->ask(&q);
+    if (call == NULL || q.malformed)
+        add_text("?");
+    else if (rows_wrote())
+        add_text("\tWROTE");
+    if (q.differs)
+        add_text("\tDIFFER");
+    reply_end();
+}
+
+/* ---- All lines */
+
+/* The longest line that is taken, and its end. */
+#define INPUT 1048576u
+
+static uint8_t input[INPUT];
+static uint64_t turns;
+
+/* Answers each line that ends within the first `filled` bytes, and gives where the line that does not begins. */
+static size_t respond_to_all(size_t filled)
+{
+    size_t from = 0, to;
+    for (to = 0; to < filled; to++)
+        if (input[to] == '\n') {
+            respond(input + from, to - from, turns++);
+            from = to + 1;
+        }
+    return from;
+}
+
+/* Moves what is left to the front of the input. */
+static size_t to_front(size_t from, size_t filled)
+{
+    size_t i;
+    for (i = from; i < filled; i++)
+        input[i - from] = input[i];
+    return filled - from;
+}
+
+/* Where the first line ends, or `filled` where it goes on. */
+static size_t line_end(size_t filled)
+{
+    size_t i = 0;
+    while (i < filled && input[i] != '\n')
+        i++;
+    return i;
+}
+
+/* Answers before each wait for more input, so that whoever asks one request at a time gets its answer. */
+static void serve(void)
+{
+    size_t filled = 0;
+    int passing = 0; /* inside a line that was too long and has its answer */
+    long n;
+    while (reply_flush(), (n = read(STANDARD_INPUT, input + filled, INPUT - filled)) > 0) {
+        filled += (size_t)n;
+        if (passing) {
+            size_t end = line_end(filled);
+            passing = end == filled;
+            filled = to_front(passing ? end : end + 1, filled);
+        }
+        filled = to_front(respond_to_all(filled), filled);
+        if (filled == INPUT) {
+            respond(input, 0, turns++);
+            passing = 1;
+            filled = 0;
+        }
+    }
+    if (filled > 0)
+        respond(input, filled, turns++);
+    reply_flush();
+}
+
+static void on_touch(int number)
+{
+    (void)number;
+    reply_abandon();
+    stop("ask: the next request's call touched a byte outside its rows");
+}
+
+int main(int count, char **words)
+{
+    size_t i;
+    for (i = 0; count > 1 && words[1][i] != 0; i++)
+        turns = 10 * turns + (uint64_t)(words[1][i] - '0');
+    signal(SIGSEGV, on_touch);
+    signal(SIGBUS, on_touch);
+    serve();
+    return 0;
+}

@@ -1,0 +1,37 @@
+/* STEP: one step of an edit session, in the caller's own rows. */
+#include "calls.h"
+
+static int field_spells(const struct request *q, size_t k, const char *word)
+{
+    return k < q->count && q->fields[k].n == 2 && memcmp(q->fields[k].at, word, 2) == 0;
+}
+
+/* STEP seq mm ml lens kind args */
+void ask_step(struct request *q)
+{
+    uint8_t has_ml, number;
+    struct row *seq = read_bytes(q, 0, BASES), *mm = read_bytes(q, 1, BYTES), *ml = read_ml(q, 2, &has_ml);
+    struct row *lengths = read_lengths(q, 3, AQL_SESSION_LENGTHS);
+    struct row *given = read_places(q, 5);
+    int masks = field_spells(q, 4, "MK"), drops = field_spells(q, 4, "DR"), cuts = field_spells(q, 4, "CU");
+    if (!(masks || drops || (cuts && given->n == 2)))
+        q->malformed = 1;
+    if (!ready(q))
+        return;
+    if (masks)
+        number = aql_session_mask(U8(seq), U8(mm), U8(ml), has_ml, as_size(lengths), U32(given));
+    else if (drops)
+        number = aql_session_drop_calls(U8(seq), U8(mm), U8(ml), has_ml, as_size(lengths), U32(given));
+    else
+        number = aql_session_cut(U8(seq), U8(mm), U8(ml), has_ml, as_size(lengths), as_u32(given)[0], as_u32(given)[1]);
+    if (!answered(number))
+        return;
+    /* The rows are shown whole: what lies past the new lengths stays as it was, which rows_wrote sees too. */
+    put_whole(seq, drops ? 0 : written(lengths, AQL_SESSION_SEQ));
+    put_whole(mm, written(lengths, AQL_SESSION_MM));
+    if (has_ml)
+        put_whole(ml, written(lengths, AQL_SESSION_ML));
+    else
+        put_dash();
+    put_sizes(as_size(lengths), AQL_SESSION_LENGTHS);
+}

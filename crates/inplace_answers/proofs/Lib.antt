@@ -1,3 +1,0 @@
--- What the walks of records.rt cite: the front of an array lent and taken back, and the contract of `gate_row`.
-pub mod Front
-pub mod Row

@@ -1,0 +1,89 @@
+"""Makes a failing request smaller: takes parts out of its fields for as long as it still fails.
+
+Fields of one length, as before and after of a mask, also lose the same part together. Nothing here knows which field
+holds what: a request that is no longer of its form is answered `?` by everybody, and so does not fail.
+"""
+import re
+
+MOST_TRIES = 1_500  # each starts a program
+
+
+def items_of(field):
+    """A field as its items, with what stands between them: bytes in hex, or a list."""
+    if re.fullmatch("(?:[0-9a-f]{2})+", field):
+        return re.findall("..", field), ""
+    return ([] if field == "*" else field.split(",")), ","
+
+
+def written(items, between):
+    return between.join(items) or ("." if between == "" else "*")
+
+
+def without_part(fields, chosen, at, size):
+    """The fields with the items from `at` on taken out of the chosen ones."""
+    left = list(fields)
+    for k in chosen:
+        items, between = items_of(fields[k])
+        left[k] = written(items[:at] + items[at + size :], between)
+    return left
+
+
+def groups_of(fields):
+    """Fields to shorten together: those of one length, and then each by itself."""
+    lengths = [len(items_of(field)[0]) for field in fields]
+    for length in sorted(set(lengths), reverse=True):
+        alike = [k for k, own in enumerate(lengths) if own == length]
+        if length > 1 and len(alike) > 1:
+            yield alike, length
+    for k, length in enumerate(lengths):
+        yield [k], length
+
+
+def smaller_numbers(fields):
+    """The fields with one item that is a number made smaller."""
+    for k, field in enumerate(fields):
+        items, between = items_of(field)
+        for at, item in enumerate(items):
+            if between and item.isdigit() and int(item) > 0:
+                for less in dict.fromkeys((0, int(item) // 2, int(item) - 1)):
+                    yield fields[:k] + [",".join(items[:at] + [str(less)] + items[at + 1 :])] + fields[k + 1 :]
+
+
+def candidates(line):
+    """Smaller requests, those that lose most first."""
+    name, *fields = line.split("\t")
+    if fields and fields[-1].startswith("@"):
+        yield "\t".join([name, *fields[:-1]])
+    for k in range(len(fields)):
+        # Without ML a text can be shortened by itself.
+        yield "\t".join([name, *fields[:k], "-", *fields[k + 1 :]])
+    for chosen, length in groups_of(fields):
+        size = length
+        while size > 0:
+            for at in range(0, length - size + 1, max(1, size // 4)):
+                yield "\t".join([name, *without_part(fields, chosen, at, size)])
+            size //= 2
+    for fewer in smaller_numbers(fields):
+        yield "\t".join([name, *fewer])
+
+
+def next_smaller(line, fails, tries):
+    for one in candidates(line):
+        if tries[0] == 0:
+            return None
+        # Shorter, or of the same length with a smaller number: so it comes to an end.
+        if (len(one), one) < (len(line), line):
+            tries[0] -= 1
+            if fails(one):
+                return one
+    return None
+
+
+def shrunk(line, fails):
+    """The smallest failing request that was found; the request itself where it does not fail alone."""
+    tries = [MOST_TRIES]
+    if not fails(line):
+        return line
+    while (one := next_smaller(line, fails, tries)) is not None:
+        line = one
+    return line

@@ -1,0 +1,207 @@
+//! The form of requests: what each field of a call holds, and how much of it the program's buffers take.
+
+use crate::protocol::{absent_or, byte, is_bytes, list, number, signed, small, yes_or_no};
+use Kind::{
+    Aligned, Bases, Counts, CutStart, Flags, GivenValues, Informative, Length, Lengths, Mode, Pattern, Place,
+    Places, Reads, Reference, ReferenceRow, SignedPlaces, Start, Step, Text, Values, Window, Words, YesNo,
+};
+
+/// What a field holds. `Bases`, `Informative` and `Counts` of one request run in parallel.
+#[derive(Clone, Copy, Debug, PartialEq, Eq)]
+pub enum Kind {
+    /// MM.
+    Text,
+    /// ML, `-` for none.
+    Values,
+    /// An ML that must be there.
+    GivenValues,
+    Bases,
+    /// A cut's SEQ after it.
+    Window,
+    Informative,
+    Counts,
+    /// CIGAR words.
+    Words,
+    Places,
+    /// Places of a reference, `-` where one is missing.
+    SignedPlaces,
+    Place,
+    Start,
+    /// A number, `-` where it is unknown.
+    CutStart,
+    Length,
+    /// A session's three lengths.
+    Lengths,
+    Flags,
+    Reference,
+    ReferenceRow,
+    Reads,
+    Aligned,
+    YesNo,
+    Pattern,
+    Mode,
+    Step,
+}
+
+/// A call, the kinds of its fields, and how many numbers of room it may be lent.
+pub struct Call {
+    pub name: &'static str,
+    fields: &'static [Kind],
+    pub room: usize,
+    /// Fields that may come up to three times after the others.
+    strand: &'static [Kind],
+}
+
+const fn call(name: &'static str, fields: &'static [Kind], room: usize) -> Call {
+    Call { name, fields, room, strand: &[] }
+}
+
+const STRAND: &[Kind] = &[Pattern, Informative, Counts, Counts];
+const MOST_STRANDS: usize = 3;
+
+pub const CALLS: [Call; 18] = [
+    call("Q", &[Words, Start, YesNo], 1),
+    call("CPG", &[Reference, Place, YesNo], 0),
+    call("PAT", &[Flags], 0),
+    call("FETCH", &[SignedPlaces, Reference], 1),
+    call("ANN", &[Length, Pattern, YesNo, ReferenceRow, Reads, Aligned], 1),
+    call("GATE", STRAND, 0),
+    call("TRUNC", &[Length, Pattern, Informative, Counts, Counts], 1),
+    call("CNT", STRAND, 1),
+    call("REST", &[Pattern, Bases, Informative], 0),
+    call("BUILD", &[Pattern, Mode, Bases, Informative, Counts, Counts], 2),
+    call("BUILDMM", &[Pattern, Mode, Bases, Informative, Counts, Counts], 1),
+    Call { name: "DUP", fields: &[Mode, Bases], room: 2, strand: STRAND },
+    call("CALLS", &[Text, Values, Bases], 1),
+    call("TALLY", &[Text, GivenValues, Bases], 0),
+    call("MASK", &[Text, Values, Bases, Bases], 2),
+    call("DROP", &[Text, Values, Bases, Places], 2),
+    call("CUT", &[Text, Values, Bases, Window, CutStart], 2),
+    call("STEP", &[Bases, Text, Values, Lengths, Step, Places], 0),
+];
+
+impl Call {
+    /// The call of that name, where the table has it.
+    #[must_use]
+    pub fn named(name: &str) -> Option<&'static Self> {
+        CALLS.iter().find(|call| call.name == name)
+    }
+
+    /// The kinds of the fields, as many as a request may have.
+    pub fn kinds(&self) -> impl Iterator<Item = Kind> {
+        self.fields.iter().chain(self.strand.iter().cycle()).copied()
+    }
+
+    fn takes(&self, count: usize) -> bool {
+        let strands = count.checked_sub(self.fields.len());
+        strands.is_some_and(|over| {
+            over == 0
+                || !self.strand.is_empty()
+                    && over.is_multiple_of(self.strand.len())
+                    && over / self.strand.len() <= MOST_STRANDS
+        })
+    }
+}
+
+// ---- Buffers ---------------------------------------------------------------------------------
+
+// Each takes one more than the domain allows.
+const BASES: usize = 16_001;
+const BYTES: usize = 65_537;
+const READS: usize = 4_097;
+const WORDS: usize = 65_536;
+const LONGEST_LINE: usize = 1_048_575;
+
+/// How many bytes a row of the form has.
+#[must_use]
+pub fn row_length(field: &str) -> usize {
+    if matches!(field, "." | "-") { 0 } else { field.len() / 2 }
+}
+
+/// How many items a list of the form has.
+#[must_use]
+pub fn list_length(field: &str) -> usize {
+    if field == "*" { 0 } else { 1 + field.bytes().filter(|&byte| byte == b',').count() }
+}
+
+fn is_row(field: &str, most: usize) -> bool {
+    is_bytes(field) && row_length(field) <= most
+}
+
+fn is_list<T>(field: &str, most: usize, read: impl Fn(&str) -> Option<T>) -> bool {
+    list_length(field) <= most && (field == "*" || field.split(',').all(|item| read(item).is_some()))
+}
+
+/// Rows that fit the buffer one by one and joined.
+fn are_rows(field: &str, most: usize) -> bool {
+    is_list(field, most, |row| is_row(row, BYTES).then_some(())) && joined_length(field) <= BYTES
+}
+
+/// How many bytes a list of rows has.
+#[must_use]
+pub fn joined_length(field: &str) -> usize {
+    if field == "*" { 0 } else { field.split(',').map(row_length).sum() }
+}
+
+fn holds(kind: Kind, field: &str) -> bool {
+    match kind {
+        Text | GivenValues | Reference => is_row(field, BYTES),
+        Values => field == "-" || is_row(field, BYTES),
+        Bases | Window | Informative => is_row(field, BASES),
+        Counts => is_list(field, BASES, small),
+        Words => is_list(field, WORDS, small),
+        Places => is_list(field, BYTES, number),
+        SignedPlaces => is_list(field, BYTES, |place| absent_or(place, signed)),
+        ReferenceRow => is_list(field, BYTES, |base| absent_or(base, byte)),
+        Reads => are_rows(field, READS),
+        Aligned => are_rows(field, BYTES),
+        Lengths => list_length(field) == 3 && list(field, number).is_some_and(|found| found.len() == 3),
+        Place | Length => number(field).is_some(),
+        CutStart => absent_or(field, number).is_some(),
+        Start => signed(field).is_some(),
+        Flags => number(field).is_some_and(|flags| flags <= 65_535),
+        YesNo => yes_or_no(field).is_some(),
+        Pattern => matches!(field, "C" | "G"),
+        Mode => matches!(field, "E" | "T" | "D"),
+        Step => matches!(field, "MK" | "DR" | "CU"),
+    }
+}
+
+// ---- Requests --------------------------------------------------------------------------------
+
+/// A line taken apart: its call's name, its fields, and the room where it lends any.
+pub struct Request<'a> {
+    pub name: &'a str,
+    pub fields: Vec<&'a str>,
+    pub room: Option<&'a str>,
+}
+
+impl<'a> Request<'a> {
+    #[must_use]
+    pub fn of(line: &'a str) -> Self {
+        let mut parts = line.split('\t');
+        let name = parts.next().unwrap_or_default();
+        let mut fields: Vec<&str> = parts.collect();
+        let room = fields.last().and_then(|last| last.strip_prefix('@'));
+        if room.is_some() {
+            fields.pop();
+        }
+        Self { name, fields, room }
+    }
+
+    /// The numbers of the room, where it is of its form.
+    #[must_use]
+    pub fn sizes(&self) -> Option<Vec<u64>> {
+        list(self.room?, number)
+    }
+
+    /// Whether the program must take this for a request of the call.
+    #[must_use]
+    pub fn is_of_form(&self, call: &Call, line: &str) -> bool {
+        line.len() <= LONGEST_LINE
+            && self.room.is_none_or(|_| call.room > 0 && self.sizes().is_some_and(|n| n.len() == call.room))
+            && call.takes(self.fields.len())
+            && call.kinds().zip(&self.fields).all(|(kind, field)| holds(kind, field))
+            && (self.fields.get(4) != Some(&"CU") || call.name != "STEP" || list_length(self.fields[5]) == 2)
+    }
+}
