@@ -10,20 +10,16 @@ static size_t longest_text(size_t bases)
 /* What a strand's tag is built from, beside the consensus. */
 struct strand {
     uint16_t flags;
-    struct row *informative, *unconverted, *converted;
+    struct columns columns;
 };
 
 static struct strand read_strand(struct request *q, size_t pattern, size_t columns)
 {
     struct strand s;
     s.flags = read_pattern(q, pattern);
-    s.informative = read_bytes(q, columns, BASES);
-    s.unconverted = read_numbers(q, columns + 1, BASES);
-    s.converted = read_numbers(q, columns + 2, BASES);
+    s.columns = read_columns(q, columns);
     return s;
 }
-
-#define COLUMNS(s) U8((s).informative), U32((s).unconverted), U32((s).converted)
 
 /* BUILD pattern mode seq inf unc con */
 void ask_build(struct request *q)
@@ -35,7 +31,7 @@ void ask_build(struct request *q)
     struct row *mm_len = output_sizes(1), *ml_len = output_sizes(1);
     if (!ready(q))
         return;
-    if (answered(aql_build_mm_ml_tags(U8(seq), COLUMNS(s), s.flags, mode, U8(mm), U8(ml), as_size(mm_len), as_size(ml_len)))) {
+    if (answered(aql_build_mm_ml_tags(U8(seq), COLUMNS(s.columns), s.flags, mode, U8(mm), U8(ml), as_size(mm_len), as_size(ml_len)))) {
         put_bytes(mm, written(mm_len, 0));
         put_bytes(ml, written(ml_len, 0));
     }
@@ -50,7 +46,7 @@ void ask_buildmm(struct request *q)
     struct row *mm = output(q, 1, 0, longest_text(seq->n)), *mm_len = output_sizes(1);
     if (!ready(q))
         return;
-    if (answered(aql_build_mm_tag_no_ml(U8(seq), COLUMNS(s), s.flags, mode, U8(mm), as_size(mm_len))))
+    if (answered(aql_build_mm_tag_no_ml(U8(seq), COLUMNS(s.columns), s.flags, mode, U8(mm), as_size(mm_len))))
         put_bytes(mm, written(mm_len, 0));
 }
 
@@ -61,9 +57,9 @@ static struct strand no_strand(void)
 {
     struct strand s;
     s.flags = (uint16_t)rows_turn();
-    s.informative = row_in_page(1);
-    s.unconverted = row_in_page(sizeof(uint32_t));
-    s.converted = row_in_page(sizeof(uint32_t));
+    s.columns.informative = row_in_page(1);
+    s.columns.unconverted = row_in_page(sizeof(uint32_t));
+    s.columns.converted = row_in_page(sizeof(uint32_t));
     return s;
 }
 
@@ -107,9 +103,9 @@ void ask_dup(struct request *q)
         q->malformed = 1;
     if (!ready(q))
         return;
-    if (!answered(aql_duplex_methylation_tags(U8(bases), strands, mode, first.flags, COLUMNS(first), second.flags, COLUMNS(second), U8(seq),
-                                              U8(both.mm), U8(ml), COUNTS(both), U8(own[0].mm), COUNTS(own[0]), U8(own[1].mm), COUNTS(own[1]),
-                                              as_size(lengths))))
+    if (!answered(aql_duplex_methylation_tags(U8(bases), strands, mode, first.flags, COLUMNS(first.columns), second.flags, COLUMNS(second.columns),
+                                              U8(seq), U8(both.mm), U8(ml), COUNTS(both), U8(own[0].mm), COUNTS(own[0]), U8(own[1].mm),
+                                              COUNTS(own[1]), as_size(lengths))))
         return;
     put_bytes(seq, written(lengths, AQL_DUPLEX_SEQ));
     put_text_or_dash(both.mm, written(lengths, AQL_DUPLEX_MM));

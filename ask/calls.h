@@ -4,6 +4,13 @@
 
 #include "request.h"
 
+/* The evidence of a consensus in three columns, which stand in three fields; and as the arguments that a call takes for it. */
+struct columns {
+    struct row *informative, *unconverted, *converted;
+};
+struct columns read_columns(struct request *q, size_t k);
+#define COLUMNS(c) U8((c).informative), U32((c).unconverted), U32((c).converted)
+
 /* alignment.c */
 void ask_q(struct request *q);
 void ask_cpg(struct request *q);

@@ -1,11 +1,7 @@
 /* ANN, GATE, TRUNC, CNT and REST: the evidence of a consensus in three columns. */
 #include "calls.h"
 
-struct columns {
-    struct row *informative, *unconverted, *converted;
-};
-
-static struct columns read_columns(struct request *q, size_t k)
+struct columns read_columns(struct request *q, size_t k)
 {
     struct columns c;
     c.informative = read_bytes(q, k, BASES);
@@ -43,8 +39,8 @@ void ask_ann(struct request *q)
     struct row *n = output_sizes(1);
     if (!ready(q))
         return;
-    if (answered(aql_annotate_simplex_methylation(length, U32(lengths), U8(reads), U8(reference), flags, U8(aligned), count_all,
-                                                  U8(c.informative), U32(c.unconverted), U32(c.converted), as_size(n))))
+    if (answered(
+            aql_annotate_simplex_methylation(length, U32(lengths), U8(reads), U8(reference), flags, U8(aligned), count_all, COLUMNS(c), as_size(n))))
         put_columns(c, written(n, 0));
 }
 
@@ -56,7 +52,7 @@ void ask_gate(struct request *q)
     read_pattern(q, 0);
     if (!ready(q))
         return;
-    if (answered(aql_gate_to_informative(U8(c.informative), U32(c.unconverted), U32(c.converted), as_size(n)))) {
+    if (answered(aql_gate_to_informative(COLUMNS(c), as_size(n)))) {
         put_yes_bytes(c.informative->bytes, c.informative->n);
         put_counts(c.unconverted, written(n, 0));
         put_counts(c.converted, written(n, 0));
@@ -72,8 +68,7 @@ void ask_trunc(struct request *q)
     read_pattern(q, 1);
     if (!ready(q))
         return;
-    if (answered(aql_truncate(length, U8(c.informative), U32(c.unconverted), U32(c.converted), U8(kept.informative), U32(kept.unconverted),
-                              U32(kept.converted), as_size(n))))
+    if (answered(aql_truncate(length, COLUMNS(c), COLUMNS(kept), as_size(n))))
         put_columns(kept, written(n, 0));
 }
 
@@ -87,8 +82,8 @@ void ask_cnt(struct request *q)
     read_pattern(q, 0);
     if (!ready(q))
         return;
-    first = aql_unconverted_counts(U8(c.informative), U32(c.unconverted), U32(c.converted), I16(cu), as_size(n));
-    second = aql_converted_counts(U8(c.informative), U32(c.unconverted), U32(c.converted), I16(ct), as_size(m));
+    first = aql_unconverted_counts(COLUMNS(c), I16(cu), as_size(n));
+    second = aql_converted_counts(COLUMNS(c), I16(ct), as_size(m));
     must_agree(q, first, second);
     if (answered(first)) {
         put_tag_counts(cu, written(n, 0));

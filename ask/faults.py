@@ -123,7 +123,7 @@ def noticed(command, work):
     wrong = sum(len(judge.unlike(requests, judge.one_part(asked, requests, turn), wanted)) for turn in judge.TURNS)
     if wrong:
         yield f"{wrong:,} frozen answers"
-    if not built(work, "exports", "ask/rows.c", "ask/exports/*.c"):
+    if not built(work, "exports", "ask/rows.c", "ask/reply.c", "ask/exports/*.c"):
         yield "the compiler, of exports"
     elif not ran(work, *command[:-1], os.path.join(work, "exports")):
         yield "exports"

@@ -1,11 +1,12 @@
-/* `ask`: answers requests on standard input, one a line, through the C library's archive, so that what labs link can be held against the Rust, a model, or
- * anybody's own cases. oracle/README.md describes the requests; tools/ask builds and starts it.
+/* `ask`: answers requests on standard input, one a line, through the C library's archive, so that what labs link can be held against the Rust, a
+ * model, or anybody's own cases. oracle/README.md describes the requests; tools/ask builds and starts it.
  *
- * An argument is the number of the first turn: it decides where the untouchable page stands (rows.h), which rows without entries are NULL, and the bits
- * that a call must not look at. Each request is one turn. The run ends with status 70 where a call touches that page.
+ * A new request is a function in its family's file, its name in calls.h and a line of the table below; for the load also a line of oracle/src/form.rs.
+ *
+ * An argument is the number of the first turn: it decides where the untouchable page stands (rows.h), which rows without entries are NULL, and the
+ * bits that a call must not look at. Each request is one turn. The run ends with status 70 where a call touches that page.
  */
 #include "calls.h"
-#include "reply.h"
 
 struct call {
     const char *name;
@@ -15,24 +16,11 @@ struct call {
 };
 
 static const struct call calls[] = {
-    {"Q", 3, 3, 1, ask_q},
-    {"CPG", 3, 3, 0, ask_cpg},
-    {"PAT", 1, 1, 0, ask_pat},
-    {"FETCH", 2, 2, 1, ask_fetch},
-    {"ANN", 6, 6, 1, ask_ann},
-    {"GATE", 4, 4, 0, ask_gate},
-    {"TRUNC", 5, 5, 1, ask_trunc},
-    {"CNT", 4, 4, 1, ask_cnt},
-    {"REST", 3, 3, 0, ask_rest},
-    {"BUILD", 6, 6, 2, ask_build},
-    {"BUILDMM", 6, 6, 1, ask_buildmm},
-    {"DUP", 2, 14, 2, ask_dup},
-    {"CALLS", 3, 3, 1, ask_calls},
-    {"TALLY", 3, 3, 0, ask_tally},
-    {"MASK", 4, 4, 2, ask_mask},
-    {"DROP", 4, 4, 2, ask_drop},
-    {"CUT", 5, 5, 2, ask_cut},
-    {"STEP", 6, 6, 0, ask_step},
+    {"Q", 3, 3, 1, ask_q},         {"CPG", 3, 3, 0, ask_cpg},     {"PAT", 1, 1, 0, ask_pat},         {"FETCH", 2, 2, 1, ask_fetch},
+    {"ANN", 6, 6, 1, ask_ann},     {"GATE", 4, 4, 0, ask_gate},   {"TRUNC", 5, 5, 1, ask_trunc},     {"CNT", 4, 4, 1, ask_cnt},
+    {"REST", 3, 3, 0, ask_rest},   {"BUILD", 6, 6, 2, ask_build}, {"BUILDMM", 6, 6, 1, ask_buildmm}, {"DUP", 2, 14, 2, ask_dup},
+    {"CALLS", 3, 3, 1, ask_calls}, {"TALLY", 3, 3, 0, ask_tally}, {"MASK", 4, 4, 2, ask_mask},       {"DROP", 4, 4, 2, ask_drop},
+    {"CUT", 5, 5, 2, ask_cut},     {"STEP", 6, 6, 0, ask_step},
 };
 
 /* ---- One request */

@@ -20,8 +20,7 @@ void ask_calls(struct request *q)
     size_t i, n;
     if (!ready(q))
         return;
-    if (!answered(aql_read_calls(U8(seq), U8(mm), U8(ml), has_ml, U32(groups), U32(places), U32(starts), as_size(group_count),
-                                 as_size(call_count))))
+    if (!answered(aql_read_calls(U8(seq), U8(mm), U8(ml), has_ml, U32(groups), U32(places), U32(starts), as_size(group_count), as_size(call_count))))
         return;
     put_size(written(group_count, 0));
     n = written(call_count, 0);

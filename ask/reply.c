@@ -1,5 +1,6 @@
 /* The line that answers a request, and where it goes. */
 #include "reply.h"
+#include "aquiledru.h"
 
 #define LINES (8u << 20)
 /* More than the longest answer takes. */
@@ -86,17 +87,20 @@ static void add_bytes(const uint8_t *bytes, size_t n)
         add_hex(bytes[i]);
 }
 
-/* What goes before item i of a list of n: a comma, or `*` for the list that has none. */
-static void add_comma(size_t i)
-{
-    if (i > 0)
-        add_character(',');
-}
+/* Adds entry i of a row. */
+typedef void add_entry(const struct row *r, size_t i);
 
-static void add_empty(size_t n)
+static void put_list(struct row *r, size_t n, add_entry *add)
 {
-    if (n == 0)
+    size_t i, all = row_fill(r, n);
+    add_tab();
+    if (all == 0)
         add_character('*');
+    for (i = 0; i < all; i++) {
+        if (i > 0)
+            add_character(',');
+        add(r, i);
+    }
 }
 
 int answered(uint8_t number)
@@ -126,17 +130,6 @@ void put_text_or_dash(struct row *r, size_t n)
         put_bytes(r, n);
 }
 
-void put_counts(struct row *r, size_t n)
-{
-    size_t i, all = row_fill(r, n);
-    add_tab();
-    add_empty(all);
-    for (i = 0; i < all; i++) {
-        add_comma(i);
-        add_decimal(as_u32(r)[i]);
-    }
-}
-
 static void add_signed(int64_t n)
 {
     if (n < 0)
@@ -144,43 +137,60 @@ static void add_signed(int64_t n)
     add_decimal(n < 0 ? 0 - (uint64_t)n : (uint64_t)n);
 }
 
+static void add_count(const struct row *r, size_t i)
+{
+    add_decimal(as_u32(r)[i]);
+}
+
+static void add_tag_count(const struct row *r, size_t i)
+{
+    add_signed(as_i16(r)[i]);
+}
+
+static void add_position(const struct row *r, size_t i)
+{
+    if (as_i64(r)[i] == AQL_MISSING_PLACE)
+        add_character('-');
+    else
+        add_signed(as_i64(r)[i]);
+}
+
+static void add_reference_base(const struct row *r, size_t i)
+{
+    if (as_u8(r)[i] == 0)
+        add_character('-');
+    else
+        add_hex(as_u8(r)[i]);
+}
+
+static void add_size(const struct row *r, size_t i)
+{
+    add_decimal(as_size(r)[i]);
+}
+
+void put_counts(struct row *r, size_t n)
+{
+    put_list(r, n, add_count);
+}
+
 void put_tag_counts(struct row *r, size_t n)
 {
-    size_t i, all = row_fill(r, n);
-    add_tab();
-    add_empty(all);
-    for (i = 0; i < all; i++) {
-        add_comma(i);
-        add_signed(as_i16(r)[i]);
-    }
+    put_list(r, n, add_tag_count);
 }
 
 void put_positions(struct row *r, size_t n)
 {
-    size_t i, all = row_fill(r, n);
-    add_tab();
-    add_empty(all);
-    for (i = 0; i < all; i++) {
-        add_comma(i);
-        if (as_i64(r)[i] == AQL_MISSING_PLACE)
-            add_character('-');
-        else
-            add_signed(as_i64(r)[i]);
-    }
+    put_list(r, n, add_position);
 }
 
 void put_reference(struct row *r, size_t n)
 {
-    size_t i, all = row_fill(r, n);
-    add_tab();
-    add_empty(all);
-    for (i = 0; i < all; i++) {
-        add_comma(i);
-        if (as_u8(r)[i] == 0)
-            add_character('-');
-        else
-            add_hex(as_u8(r)[i]);
-    }
+    put_list(r, n, add_reference_base);
+}
+
+void put_sizes(struct row *r, size_t n)
+{
+    put_list(r, n, add_size);
 }
 
 void put_yes_bytes(const uint8_t *bytes, size_t n)
@@ -191,16 +201,6 @@ void put_yes_bytes(const uint8_t *bytes, size_t n)
         add_character('.');
     for (i = 0; i < n; i++)
         add_hex(bytes[i] != 0);
-}
-
-void put_sizes(const size_t *sizes, size_t n)
-{
-    size_t i;
-    add_tab();
-    for (i = 0; i < n; i++) {
-        add_comma(i);
-        add_decimal(sizes[i]);
-    }
 }
 
 void put_size(size_t n)

@@ -64,12 +64,6 @@ int64_t read_signed(struct request *q, size_t k)
     return n;
 }
 
-uint8_t some_yes(void)
-{
-    static const uint8_t yes[4] = {1, 2, 128, 255};
-    return yes[rows_turn() / 4 % 4];
-}
-
 uint8_t read_yes(struct request *q, size_t k)
 {
     if (field_is(q, k, '1'))

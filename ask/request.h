@@ -1,13 +1,14 @@
 /* A request and its answer: fields are read into rows, the call is made, and its answer is put into the line.
  *
- * A call's function reads its fields, takes rows for its outputs, and asks `ready`; it then makes the call, hands its number to `answered`, and puts the
- * fields of an answer 0. A field that is not of its form makes the whole line `?`, whatever else was read. oracle/README.md describes the requests.
+ * A call's function reads its fields, takes rows for its outputs, and asks `ready`; it then makes the call, hands its number to `answered`, and puts
+ * the fields of an answer 0. A field that is not of its form makes the whole line `?`, whatever else was read. oracle/README.md describes the
+ * requests.
  */
 #ifndef ASK_REQUEST_H
 #define ASK_REQUEST_H
 
 #include "aquiledru.h"
-#include "rows.h"
+#include "reply.h"
 
 /* The largest inputs that a request may have: one more than each bound of the domain. */
 #define BASES (AQL_MAX_SEQ + 1)
@@ -40,7 +41,8 @@ struct row *read_bytes(struct request *q, size_t k, size_t most);
 /* The same, or `-` for no ML: *has is then 0, and the row may not be looked at. */
 struct row *read_ml(struct request *q, size_t k, uint8_t *has);
 
-/* Lists, `*` for none: of numbers up to 2^32-1, of places up to 2^64-1 (those above 2^32-1 as that, since both lie past every SEQ), of signed places with
+/* Lists, `*` for none: of numbers up to 2^32-1, of places up to 2^64-1 (those above 2^32-1 as that, since both lie past every SEQ), of signed places
+ * with
  * `-` for a missing one, of a reference's bases with `-` for a missing one, and of so many lengths. */
 struct row *read_numbers(struct request *q, size_t k, size_t most);
 struct row *read_places(struct request *q, size_t k);
@@ -60,7 +62,6 @@ int field_is(const struct request *q, size_t k, char character);
 
 /* Yes as some byte that is not 0, which varies by turn. */
 uint8_t read_yes(struct request *q, size_t k);
-uint8_t some_yes(void);
 
 /* A pattern as a read's flags, whose other bits vary by turn; a mode as its number. */
 uint16_t read_pattern(struct request *q, size_t k);
@@ -75,34 +76,12 @@ struct row *output(struct request *q, size_t width, size_t which, size_t ample);
 struct row *output_sizes(size_t n);
 size_t written(struct row *r, size_t k);
 
-/* ---- The answer */
+/* ---- The call */
 
 /* Whether every field was of its form; the rows are then kept as they are, and the call comes next. */
 int ready(struct request *q);
 
-/* Puts the call's number; true where it is 0, so that fields follow. */
-int answered(uint8_t number);
-
 /* Notes a second call's number where it is to be the first's. */
 void must_agree(struct request *q, uint8_t number, uint8_t other);
-
-/* Each puts a tab and a field: the first n entries of a row that the call has filled, or a number. */
-void put_bytes(struct row *r, size_t n);
-void put_whole(struct row *r, size_t n); /* the whole row, of which n entries may have changed */
-void put_text_or_dash(struct row *r, size_t n);
-void put_counts(struct row *r, size_t n);
-void put_tag_counts(struct row *r, size_t n);
-void put_positions(struct row *r, size_t n);
-void put_reference(struct row *r, size_t n);
-void put_yes_bytes(const uint8_t *bytes, size_t n);
-void put_sizes(const size_t *sizes, size_t n);
-void put_size(size_t n);
-void put_dash(void);
-void put_letter(char letter);
-
-/* Without a tab: parts of a field. */
-void add_decimal(uint64_t n);
-void add_character(char character);
-void add_tab(void);
 
 #endif

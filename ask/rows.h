@@ -22,6 +22,9 @@ struct row {
 void rows_begin(uint64_t turn);
 uint64_t rows_turn(void);
 
+/* A byte that stands for yes: any but 0, another one by turns. */
+uint8_t some_yes(void);
+
 /* A row of n entries, filled with a byte that varies by place. */
 struct row *row_of(size_t width, size_t n);
 

@@ -33,5 +33,5 @@ void ask_step(struct request *q)
         put_whole(ml, written(lengths, AQL_SESSION_ML));
     else
         put_dash();
-    put_sizes(as_size(lengths), AQL_SESSION_LENGTHS);
+    put_sizes(lengths, AQL_SESSION_LENGTHS);
 }

@@ -10,17 +10,17 @@ static void try_positions(void)
     static const int64_t starts[] = {-1, INT64_MIN, 2147483648, INT64_MAX};
     size_t i;
     for (i = 0; i < sizeof starts / sizeof *starts; i++)
-        REFUSES(AQL_BAD_NUMBER, aql_query_to_ref_positions(U32(matched), starts[i], yes(), I64(three), as_size(n)));
+        REFUSES(AQL_BAD_NUMBER, aql_query_to_ref_positions(U32(matched), starts[i], some_yes(), I64(three), as_size(n)));
     for (kind = 9; kind < 16; kind++) {
         struct row *word = row_u32(1, kind);
         REFUSES(AQL_BAD_NUMBER, aql_query_to_ref_positions(U32(word), 0, 0, I64(three), as_size(n)));
     }
     REFUSES(AQL_TOO_LONG, aql_query_to_ref_positions(U32(longest), 0, 0, I64(three), as_size(n)));
     REFUSES(AQL_NO_ROOM, aql_query_to_ref_positions(U32(matched), 7, 0, I64(two), as_size(n)));
-    REFUSES(AQL_NO_ROOM, aql_query_to_ref_positions(U32(matched), 7, yes(), I64(no_room), as_size(n)));
-    ACCEPTS(aql_query_to_ref_positions(U32(none), 2147483647, yes(), I64(no_room), as_size(n)));
+    REFUSES(AQL_NO_ROOM, aql_query_to_ref_positions(U32(matched), 7, some_yes(), I64(no_room), as_size(n)));
+    ACCEPTS(aql_query_to_ref_positions(U32(none), 2147483647, some_yes(), I64(no_room), as_size(n)));
     expect("places of no words", said(n, 0), 0);
-    ACCEPTS(aql_query_to_ref_positions(U32(matched), 2147483647, yes(), I64(three), as_size(n)));
+    ACCEPTS(aql_query_to_ref_positions(U32(matched), 2147483647, some_yes(), I64(three), as_size(n)));
     expect("places", row_fill(three, said(n, 0)), 3);
     expect("the first place, backward", (uint64_t)as_i64(three)[0], 2147483649);
     expect("the last place, backward", (uint64_t)as_i64(three)[2], 2147483647);

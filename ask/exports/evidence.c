@@ -1,18 +1,10 @@
 /* The evidence of a consensus: columns that are NULL or disagree, each output one short by itself, lengths over every bound. */
 #include "exports.h"
 
-/* Columns of so many entries, each entry alike. */
-struct columns {
-    struct row *informative, *unconverted, *converted;
-};
-
-static struct columns columns_of(size_t n)
+/* Evidence whose unconverted count is more than the cu tag holds. */
+static struct columns some_columns(size_t n)
 {
-    struct columns c;
-    c.informative = row_bytes(n, yes());
-    c.unconverted = row_u32(n, 40000);
-    c.converted = row_u32(n, 3);
-    return c;
+    return columns_of(n, 40000, 3);
 }
 
 /* Columns to write to, of which number `which` is one entry short. */
@@ -26,30 +18,30 @@ static struct columns room_for(size_t n, size_t which)
 }
 
 #define NO_ONE 3
-#define COLUMNS(c) U8((c).informative), U32((c).unconverted), U32((c).converted)
 
 static void try_annotate(void)
 {
-    struct columns none = columns_of(0), out = room_for(2, NO_ONE), short_one[3] = {room_for(2, 0), room_for(2, 1), room_for(2, 2)};
-    struct row *lengths = row_u32(2, 2), *bases = row_text("CTtc"), *aligned = row_bytes(4, yes()), *reference = row_text("CG");
-    struct row *huge = row_u32(3, UINT32_MAX), *n = row_of(sizeof(size_t), 1);
+    struct columns none = some_columns(0), out = room_for(2, NO_ONE), short_one[3] = {room_for(2, 0), room_for(2, 1), room_for(2, 2)};
+    struct row *lengths = row_u32(2, 2), *bases = row_text("CTtc"), *aligned = row_bytes(4, some_yes()), *reference = row_text("CG");
+    struct row *huge = row_u32(2, UINT32_MAX), *n = row_of(sizeof(size_t), 1);
     size_t i;
+    as_u32(huge)[1] = 5;
     for (i = 0; i < 3; i++)
         REFUSES(AQL_NO_ROOM, aql_annotate_simplex_methylation(2, U32(lengths), U8(bases), U8(reference), 0xff7f, U8(aligned), 0,
                                                               COLUMNS(short_one[i]), as_size(n)));
-    REFUSES(AQL_TOO_LONG, aql_annotate_simplex_methylation(SIZE_MAX, U32(lengths), U8(bases), U8(reference), 0, U8(aligned), 0, COLUMNS(out),
-                                                           as_size(n)));
-    REFUSES(AQL_LENGTHS_DISAGREE, aql_annotate_simplex_methylation(2, U32(lengths), U8(bases), U8(reference), 0, U8(reference), 0, COLUMNS(out),
-                                                                   as_size(n)));
-    /* Lengths whose sum passes 32 bits, and wraps to the four bases that there are where it is kept in 32. */
-    REFUSES(AQL_LENGTHS_DISAGREE, aql_annotate_simplex_methylation(2, U32(huge), U8(bases), U8(reference), 0, U8(aligned), 0, COLUMNS(out),
-                                                                   as_size(n)));
-    REFUSES(AQL_LENGTHS_DISAGREE, aql_annotate_simplex_methylation(2, U32(none.converted), U8(bases), U8(reference), 0, U8(aligned), 0,
-                                                                   COLUMNS(out), as_size(n)));
-    ACCEPTS(aql_annotate_simplex_methylation(0, U32(none.unconverted), U8(none.informative), U8(none.informative), 0, U8(none.informative), yes(),
-                                             COLUMNS(none), as_size(n)));
+    REFUSES(AQL_TOO_LONG,
+            aql_annotate_simplex_methylation(SIZE_MAX, U32(lengths), U8(bases), U8(reference), 0, U8(aligned), 0, COLUMNS(out), as_size(n)));
+    REFUSES(AQL_LENGTHS_DISAGREE,
+            aql_annotate_simplex_methylation(2, U32(lengths), U8(bases), U8(reference), 0, U8(reference), 0, COLUMNS(out), as_size(n)));
+    /* Lengths whose sum passes 32 bits: kept in 32 it would be the four bases that there are. */
+    REFUSES(AQL_LENGTHS_DISAGREE,
+            aql_annotate_simplex_methylation(2, U32(huge), U8(bases), U8(reference), 0, U8(aligned), 0, COLUMNS(out), as_size(n)));
+    REFUSES(AQL_LENGTHS_DISAGREE,
+            aql_annotate_simplex_methylation(2, U32(none.converted), U8(bases), U8(reference), 0, U8(aligned), 0, COLUMNS(out), as_size(n)));
+    ACCEPTS(aql_annotate_simplex_methylation(0, U32(none.unconverted), U8(none.informative), U8(none.informative), 0, U8(none.informative),
+                                             some_yes(), COLUMNS(none), as_size(n)));
     expect("positions of nothing", said(n, 0), 0);
-    ACCEPTS(aql_annotate_simplex_methylation(2, U32(lengths), U8(bases), U8(reference), 0xff7f, U8(aligned), yes(), COLUMNS(out), as_size(n)));
+    ACCEPTS(aql_annotate_simplex_methylation(2, U32(lengths), U8(bases), U8(reference), 0xff7f, U8(aligned), some_yes(), COLUMNS(out), as_size(n)));
     expect("positions", row_fill(out.informative, said(n, 0)), 2);
     row_fill(out.unconverted, 2);
     row_fill(out.converted, 2);
@@ -61,7 +53,7 @@ static void try_annotate(void)
 
 static void try_gate(void)
 {
-    struct columns none = columns_of(0), two = columns_of(2), three = columns_of(3), long_ones = columns_of(AQL_MAX_SEQ + 1);
+    struct columns none = some_columns(0), two = some_columns(2), three = some_columns(3), long_ones = some_columns(AQL_MAX_SEQ + 1);
     struct row *n = row_of(sizeof(size_t), 1);
     REFUSES(AQL_LENGTHS_DISAGREE, aql_gate_to_informative(U8(three.informative), U32(two.unconverted), U32(two.converted), as_size(n)));
     REFUSES(AQL_LENGTHS_DISAGREE, aql_gate_to_informative(U8(none.informative), U32(two.unconverted), U32(none.converted), as_size(n)));
@@ -79,7 +71,7 @@ static void try_gate(void)
 
 static void try_truncate(void)
 {
-    struct columns none = columns_of(0), three = columns_of(3), out = room_for(3, NO_ONE);
+    struct columns none = some_columns(0), three = some_columns(3), out = room_for(3, NO_ONE);
     struct columns short_one[3] = {room_for(3, 0), room_for(3, 1), room_for(3, 2)};
     struct row *n = row_of(sizeof(size_t), 1);
     size_t i;
@@ -99,7 +91,7 @@ static void try_truncate(void)
 
 static void try_counts(void)
 {
-    struct columns none = columns_of(0), three = columns_of(3);
+    struct columns none = some_columns(0), three = some_columns(3);
     struct row *two = row_of(sizeof(int16_t), 2), *out = row_of(sizeof(int16_t), 4), *no_room = row_of(sizeof(int16_t), 0);
     struct row *n = row_of(sizeof(size_t), 1);
     REFUSES(AQL_NO_ROOM, aql_unconverted_counts(COLUMNS(three), I16(two), as_size(n)));
@@ -119,7 +111,7 @@ static void try_counts(void)
 
 static void try_restore(void)
 {
-    struct row *none = row_of(1, 0), *bases = row_text("tTA"), *marks = row_bytes(3, yes()), *n = row_of(sizeof(size_t), 1);
+    struct row *none = row_of(1, 0), *bases = row_text("tTA"), *marks = row_bytes(3, some_yes()), *n = row_of(sizeof(size_t), 1);
     REFUSES(AQL_LENGTHS_DISAGREE, aql_restore_unconverted_bases(U8(bases), 0, U8(none), as_size(n)));
     REFUSES(AQL_LENGTHS_DISAGREE, aql_restore_unconverted_bases(U8(none), 0, U8(marks), as_size(n)));
     ACCEPTS(aql_restore_unconverted_bases(U8(none), 0, U8(none), as_size(n)));
@@ -153,7 +145,7 @@ static uint8_t count(size_t consensus, size_t reads, uint32_t each, size_t bases
     rows_begin(rows_turn());
     lengths = row_u32(reads, each);
     all = row_bytes(bases, 'C');
-    yeses = row_bytes(aligned, yes());
+    yeses = row_bytes(aligned, some_yes());
     reference = row_bytes(AQL_MAX_SEQ, 'C');
     out = room_for(consensus < AQL_MAX_SEQ ? consensus : AQL_MAX_SEQ, NO_ONE);
     n = row_of(sizeof(size_t), 1);

@@ -2,7 +2,7 @@
 #ifndef ASK_EXPORTS_H
 #define ASK_EXPORTS_H
 
-#include "../rows.h"
+#include "../reply.h"
 #include "aquiledru.h"
 
 /* Rows with entries. */
@@ -11,10 +11,14 @@ struct row *row_bytes(size_t n, uint8_t each);
 struct row *row_u32(size_t n, uint32_t each);
 struct row *row_sizes(size_t n, const size_t *sizes);
 
-/* A byte that stands for yes, another one in each turn. */
-uint8_t yes(void);
+/* The evidence of n positions, each alike; and as the arguments that a call takes for it. */
+struct columns {
+    struct row *informative, *unconverted, *converted;
+};
+struct columns columns_of(size_t n, uint32_t unconverted, uint32_t converted);
+#define COLUMNS(c) U8((c).informative), U32((c).unconverted), U32((c).converted)
 
-/* Each says on standard error what was not as expected, and the run ends with status 1. */
+/* Each says what was not as expected, and the run ends with status 1. */
 void expect(const char *what, uint64_t got, uint64_t wanted);
 void expect_text(const char *what, struct row *r, size_t n, const char *wanted);
 

@@ -1,27 +1,11 @@
-/* `exports`: calls every export of the C library's archive in the ways that only C can: rows that are NULL, each output one entry short by itself, numbers
- * that no enum or Bool of Rattle could hold, and as many bases as the domain takes. Each row stands against an untouchable page, behind it in one turn and
- * before it in the next. tools/run-exports builds and starts it; its last line counts what was expected.
+/* `exports`: calls every export of the C library's archive in the ways that only C can: rows that are NULL, each output one entry short by itself,
+ * numbers that no enum or Bool of Rattle could hold, and as many bases as the domain takes. Each row stands against an untouchable page, behind it in
+ * one turn and before it in the next. tools/run-exports builds and starts it; its last line counts what was expected.
  */
 #include "exports.h"
 
 static uint64_t expected;
 static int unexpected;
-
-static void say(int file, const char *text)
-{
-    write(file, text, strlen(text));
-}
-
-static void say_number(int file, uint64_t n)
-{
-    char digits[20];
-    size_t k = sizeof digits;
-    do {
-        digits[--k] = (char)('0' + n % 10);
-        n /= 10;
-    } while (n > 0);
-    write(file, digits + k, sizeof digits - k);
-}
 
 void expect(const char *what, uint64_t got, uint64_t wanted)
 {
@@ -29,14 +13,15 @@ void expect(const char *what, uint64_t got, uint64_t wanted)
     if (got == wanted)
         return;
     unexpected = 1;
-    say(STANDARD_ERROR, what);
-    say(STANDARD_ERROR, ": ");
-    say_number(STANDARD_ERROR, got);
-    say(STANDARD_ERROR, " and not ");
-    say_number(STANDARD_ERROR, wanted);
-    say(STANDARD_ERROR, ", in turn ");
-    say_number(STANDARD_ERROR, rows_turn());
-    say(STANDARD_ERROR, "\n");
+    reply_begin();
+    add_text(what);
+    add_text(": ");
+    add_decimal(got);
+    add_text(" and not ");
+    add_decimal(wanted);
+    add_text(", in turn ");
+    add_decimal(rows_turn());
+    reply_end();
 }
 
 void expect_text(const char *what, struct row *r, size_t n, const char *wanted)
@@ -81,22 +66,26 @@ size_t said(struct row *sizes, size_t k)
     return as_size(sizes)[k];
 }
 
-uint8_t yes(void)
+struct columns columns_of(size_t n, uint32_t unconverted, uint32_t converted)
 {
-    static const uint8_t each[4] = {1, 2, 128, 255};
-    return each[rows_turn() / 4 % 4];
+    struct columns c;
+    c.informative = row_bytes(n, some_yes());
+    c.unconverted = row_u32(n, unconverted);
+    c.converted = row_u32(n, converted);
+    return c;
 }
 
 static void on_touch(int number)
 {
     (void)number;
+    reply_abandon();
     stop("exports: a call touched a byte outside its rows");
 }
 
 int main(void)
 {
-    static void (*const tries[])(void) = {try_small,   try_alignment, try_evidence,  try_building,  try_reading,
-                                          try_rewriting, try_session,  try_transcript, try_corners};
+    static void (*const tries[])(void) = {try_small,     try_alignment, try_evidence,   try_building, try_reading,
+                                          try_rewriting, try_session,   try_transcript, try_corners};
     uint64_t turn;
     size_t i;
     signal(SIGSEGV, on_touch);
@@ -106,7 +95,9 @@ int main(void)
             rows_begin(turn);
             tries[i]();
         }
-    say_number(STANDARD_OUTPUT, expected);
-    say(STANDARD_OUTPUT, unexpected ? " expectations, not all met\n" : " expectations, all met\n");
+    add_decimal(expected);
+    add_text(unexpected ? " expectations, not all met" : " expectations, all met");
+    reply_end();
+    reply_flush();
     return unexpected;
 }

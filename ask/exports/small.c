@@ -95,13 +95,13 @@ static void try_position(void)
 static void try_cpg(void)
 {
     struct row *none = row_of(1, 0), *reference = row_text("aCg");
-    expect("aql_is_cpg_context of NULL", aql_is_cpg_context(U8(none), 0, yes()), 0);
+    expect("aql_is_cpg_context of NULL", aql_is_cpg_context(U8(none), 0, some_yes()), 0);
     expect("aql_is_cpg_context of NULL", aql_is_cpg_context(U8(none), SIZE_MAX, 0), 0);
-    expect("aql_is_cpg_context, top", aql_is_cpg_context(U8(reference), 1, yes()), 1);
+    expect("aql_is_cpg_context, top", aql_is_cpg_context(U8(reference), 1, some_yes()), 1);
     expect("aql_is_cpg_context, bottom", aql_is_cpg_context(U8(reference), 2, 0), 1);
-    expect("aql_is_cpg_context, the last base", aql_is_cpg_context(U8(reference), 2, yes()), 0);
+    expect("aql_is_cpg_context, the last base", aql_is_cpg_context(U8(reference), 2, some_yes()), 0);
     expect("aql_is_cpg_context, the first base", aql_is_cpg_context(U8(reference), 0, 0), 0);
-    expect("aql_is_cpg_context, past the end", aql_is_cpg_context(U8(reference), SIZE_MAX, yes()), 0);
+    expect("aql_is_cpg_context, past the end", aql_is_cpg_context(U8(reference), SIZE_MAX, some_yes()), 0);
     expect("aql_is_cpg_context, past the end", aql_is_cpg_context(U8(reference), SIZE_MAX, 0), 0);
 }
 

@@ -1,5 +1,5 @@
-/* Reading and rewriting a tag: rows that are NULL, rows without ML that may not be looked at, each output one short by itself, starts and places over every
- * bound. */
+/* Reading and rewriting a tag: rows that are NULL, rows without ML that may not be looked at, each output one short by itself, starts and places over
+ * every bound. */
 #include "exports.h"
 
 /* A tag on CAC with a call on each C, and its ML; and one without ML. */
@@ -20,15 +20,15 @@ static struct tag tag(void)
 
 static void try_check(struct tag t, struct row *groups, struct row *calls)
 {
-    REFUSES(AQL_MM_NOT_CLOSED, aql_check_tag(U8(t.none), U8(t.none), U8(t.none), yes(), as_size(groups), as_size(calls)));
+    REFUSES(AQL_MM_NOT_CLOSED, aql_check_tag(U8(t.none), U8(t.none), U8(t.none), some_yes(), as_size(groups), as_size(calls)));
     REFUSES(AQL_MM_NOT_CLOSED, aql_check_tag(U8(t.none), U8(t.none), U8(t.in_page), 0, as_size(groups), as_size(calls)));
     REFUSES(AQL_SKIP_TOO_FAR, aql_check_tag(U8(t.none), U8(t.mm), U8(t.in_page), 0, as_size(groups), as_size(calls)));
-    REFUSES(AQL_ML_TOO_SHORT, aql_check_tag(U8(t.seq), U8(t.mm), U8(t.none), yes(), as_size(groups), as_size(calls)));
+    REFUSES(AQL_ML_TOO_SHORT, aql_check_tag(U8(t.seq), U8(t.mm), U8(t.none), some_yes(), as_size(groups), as_size(calls)));
     ACCEPTS(aql_check_tag(U8(t.seq), U8(t.mm), U8(t.in_page), 0, as_size(groups), as_size(calls)));
     expect("groups", said(groups, 0), 1);
     expect("calls", said(calls, 0), 2);
     KEPT("aql_check_tag");
-    ACCEPTS(aql_check_tag(U8(t.seq), U8(t.mm), U8(t.ml), yes(), as_size(groups), as_size(calls)));
+    ACCEPTS(aql_check_tag(U8(t.seq), U8(t.mm), U8(t.ml), some_yes(), as_size(groups), as_size(calls)));
     expect("calls", said(calls, 0), 2);
 }
 
@@ -47,13 +47,13 @@ static void try_list(struct tag t, struct row *groups, struct row *calls)
     struct row *columns[3], *none = row_of(sizeof(uint32_t), 0);
     size_t i;
     for (i = 0; i < 3; i++) {
-        expect("aql_read_calls with a column one short", listed(t, t.ml, yes(), i, columns, groups, calls), AQL_NO_ROOM);
+        expect("aql_read_calls with a column one short", listed(t, t.ml, some_yes(), i, columns, groups, calls), AQL_NO_ROOM);
         KEPT("aql_read_calls with a column one short");
     }
     REFUSES(AQL_NO_ROOM, aql_read_calls(U8(t.seq), U8(t.mm), U8(t.in_page), 0, U32(none), U32(none), U32(none), as_size(groups), as_size(calls)));
-    REFUSES(AQL_MM_NOT_CLOSED, aql_read_calls(U8(t.none), U8(t.none), U8(t.none), yes(), U32(none), U32(none), U32(none), as_size(groups),
-                                              as_size(calls)));
-    expect("aql_read_calls", listed(t, t.ml, yes(), 3, columns, groups, calls), AQL_DONE);
+    REFUSES(AQL_MM_NOT_CLOSED,
+            aql_read_calls(U8(t.none), U8(t.none), U8(t.none), some_yes(), U32(none), U32(none), U32(none), as_size(groups), as_size(calls)));
+    expect("aql_read_calls", listed(t, t.ml, some_yes(), 3, columns, groups, calls), AQL_DONE);
     for (i = 0; i < 3; i++)
         expect("calls", row_fill(columns[i], said(calls, 0)), 2);
     expect("groups", said(groups, 0), 1);
@@ -93,7 +93,7 @@ struct edited {
     struct row *mm, *ml, *mm_len, *ml_len;
 };
 
-#define TAG(t) U8((t).mm), U8((t).ml), yes()
+#define TAG(t) U8((t).mm), U8((t).ml), some_yes()
 #define NO_ML(t) U8((t).mm), U8((t).in_page), 0
 #define OUT(e) U8((e).mm), U8((e).ml), as_size((e).mm_len), as_size((e).ml_len)
 
@@ -110,7 +110,7 @@ static void try_mask(struct tag t, struct edited e, struct edited short_mm, stru
     REFUSES(AQL_NO_ROOM, aql_drop_masked_modifications(U8(t.seq), U8(after), TAG(t), OUT(short_mm)));
     REFUSES(AQL_NO_ROOM, aql_drop_masked_modifications(U8(t.seq), U8(after), TAG(t), OUT(short_ml)));
     REFUSES(AQL_LENGTHS_DISAGREE, aql_drop_masked_modifications(U8(t.seq), U8(t.none), TAG(t), OUT(e)));
-    REFUSES(AQL_MM_NOT_CLOSED, aql_drop_masked_modifications(U8(t.none), U8(t.none), U8(t.none), U8(t.none), yes(), U8(t.none), U8(t.none),
+    REFUSES(AQL_MM_NOT_CLOSED, aql_drop_masked_modifications(U8(t.none), U8(t.none), U8(t.none), U8(t.none), some_yes(), U8(t.none), U8(t.none),
                                                              as_size(e.mm_len), as_size(e.ml_len)));
     ACCEPTS(aql_drop_masked_modifications(U8(t.seq), U8(after), NO_ML(t), U8(e.mm), U8(t.in_page), as_size(e.mm_len), as_size(e.ml_len)));
     edited_as("a mask without ML", e, "C+m?,0;", "");
@@ -125,7 +125,7 @@ static void try_drop(struct tag t, struct edited e, struct edited short_mm, stru
     REFUSES(AQL_NO_ROOM, aql_drop_modifications_at(U8(t.seq), U32(places), TAG(t), OUT(short_mm)));
     REFUSES(AQL_NO_ROOM, aql_drop_modifications_at(U8(t.seq), U32(places), TAG(t), OUT(short_ml)));
     REFUSES(AQL_NO_ROOM, aql_drop_modifications_at(U8(t.seq), U32(none), TAG(t), OUT(e)));
-    REFUSES(AQL_MM_NOT_CLOSED, aql_drop_modifications_at(U8(t.none), U32(none), U8(t.none), U8(t.none), yes(), U8(t.none), U8(t.none),
+    REFUSES(AQL_MM_NOT_CLOSED, aql_drop_modifications_at(U8(t.none), U32(none), U8(t.none), U8(t.none), some_yes(), U8(t.none), U8(t.none),
                                                          as_size(e.mm_len), as_size(e.ml_len)));
     ACCEPTS(aql_drop_modifications_at(U8(t.seq), U32(places), NO_ML(t), U8(e.mm), U8(t.in_page), as_size(e.mm_len), as_size(e.ml_len)));
     edited_as("a drop without ML", e, "C+m?,0;", "");
@@ -136,17 +136,17 @@ static void try_drop(struct tag t, struct edited e, struct edited short_mm, stru
 static void try_cut(struct tag t, struct edited e, struct edited short_mm, struct edited short_ml)
 {
     struct row *after = row_text("AC");
-    REFUSES(AQL_NO_ROOM, aql_trim_clipped_modifications(U8(t.seq), U8(after), yes(), 1, TAG(t), OUT(short_mm)));
-    REFUSES(AQL_NO_ROOM, aql_trim_clipped_modifications(U8(t.seq), U8(after), yes(), 1, TAG(t), OUT(short_ml)));
-    REFUSES(AQL_NO_WINDOW, aql_trim_clipped_modifications(U8(t.seq), U8(after), yes(), SIZE_MAX, TAG(t), OUT(e)));
-    REFUSES(AQL_NO_WINDOW, aql_trim_clipped_modifications(U8(t.seq), U8(after), yes(), SIZE_MAX - 1, TAG(t), OUT(e)));
+    REFUSES(AQL_NO_ROOM, aql_trim_clipped_modifications(U8(t.seq), U8(after), some_yes(), 1, TAG(t), OUT(short_mm)));
+    REFUSES(AQL_NO_ROOM, aql_trim_clipped_modifications(U8(t.seq), U8(after), some_yes(), 1, TAG(t), OUT(short_ml)));
+    REFUSES(AQL_NO_WINDOW, aql_trim_clipped_modifications(U8(t.seq), U8(after), some_yes(), SIZE_MAX, TAG(t), OUT(e)));
+    REFUSES(AQL_NO_WINDOW, aql_trim_clipped_modifications(U8(t.seq), U8(after), some_yes(), SIZE_MAX - 1, TAG(t), OUT(e)));
     REFUSES(AQL_NO_WINDOW, aql_trim_clipped_modifications(U8(t.seq), U8(after), 0, 1, TAG(t), OUT(e)));
-    REFUSES(AQL_UNCHANGED, aql_trim_clipped_modifications(U8(t.seq), U8(t.seq), yes(), SIZE_MAX, U8(t.none), U8(t.in_page), 0, OUT(e)));
-    REFUSES(AQL_UNCHANGED, aql_trim_clipped_modifications(U8(t.none), U8(t.none), 0, 0, U8(t.none), U8(t.none), yes(), OUT(e)));
-    ACCEPTS(aql_trim_clipped_modifications(U8(t.seq), U8(after), yes(), 1, NO_ML(t), U8(e.mm), U8(t.in_page), as_size(e.mm_len),
-                                           as_size(e.ml_len)));
+    REFUSES(AQL_UNCHANGED, aql_trim_clipped_modifications(U8(t.seq), U8(t.seq), some_yes(), SIZE_MAX, U8(t.none), U8(t.in_page), 0, OUT(e)));
+    REFUSES(AQL_UNCHANGED, aql_trim_clipped_modifications(U8(t.none), U8(t.none), 0, 0, U8(t.none), U8(t.none), some_yes(), OUT(e)));
+    ACCEPTS(
+        aql_trim_clipped_modifications(U8(t.seq), U8(after), some_yes(), 1, NO_ML(t), U8(e.mm), U8(t.in_page), as_size(e.mm_len), as_size(e.ml_len)));
     edited_as("a cut without ML", e, "C+m?,0;", "");
-    ACCEPTS(aql_trim_clipped_modifications(U8(t.seq), U8(after), yes(), 1, TAG(t), OUT(e)));
+    ACCEPTS(aql_trim_clipped_modifications(U8(t.seq), U8(after), some_yes(), 1, TAG(t), OUT(e)));
     edited_as("a cut", e, "C+m?,0;", "\x80");
 }
 

@@ -111,8 +111,6 @@ impl Tally {
             Verdict::Named(name) => *self.named.entry(name).or_default() += 1,
             Verdict::Disagreement => {
                 self.disagreements += 1;
-                let [request, given] = [line, answer].map(|text| shorten(&String::from_utf8_lossy(text)));
-                eprintln!("request  {request}\n  given  {given}\n  Rust   {}", shorten(&rust));
                 self.fail(line)?;
             }
         }
@@ -161,11 +159,6 @@ fn grouped(number: usize) -> String {
         shown.push(digit);
     }
     shown
-}
-
-fn shorten(text: &str) -> String {
-    let start: String = text.chars().take(300).collect();
-    if start.len() == text.len() { start } else { format!("{start}... ({} bytes)", text.len()) }
 }
 
 /// How the answers ended.
