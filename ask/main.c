@@ -168,11 +168,22 @@ static void on_touch(int number)
     stop("ask: the next request's call touched a byte outside its rows");
 }
 
-int main(int count, char **words)
+/* Reads the number of the first turn; gives whether the word is one. */
+static int first_turn(const char *word)
 {
     size_t i;
-    for (i = 0; count > 1 && words[1][i] != 0; i++)
-        turns = 10 * turns + (uint64_t)(words[1][i] - '0');
+    for (i = 0; '0' <= word[i] && word[i] <= '9'; i++)
+        turns = 10 * turns + (uint64_t)(word[i] - '0');
+    return i > 0 && word[i] == 0;
+}
+
+int main(int count, char **words)
+{
+    static const char usage[] = "ask [TURN] < requests > answers\n";
+    if (count > 2 || (count == 2 && !first_turn(words[1]))) {
+        write(STANDARD_ERROR, usage, sizeof usage - 1);
+        return 2;
+    }
     signal(SIGSEGV, on_touch);
     signal(SIGBUS, on_touch);
     serve();

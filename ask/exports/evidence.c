@@ -99,6 +99,8 @@ static void try_counts(void)
     REFUSES(AQL_LENGTHS_DISAGREE, aql_converted_counts(U8(three.informative), U32(three.unconverted), U32(none.converted), I16(out), as_size(n)));
     ACCEPTS(aql_converted_counts(COLUMNS(none), I16(no_room), as_size(n)));
     expect("counts of nothing", said(n, 0), 0);
+    ACCEPTS(aql_unconverted_counts(COLUMNS(none), I16(no_room), as_size(n)));
+    expect("counts of nothing", said(n, 0), 0);
     ACCEPTS(aql_unconverted_counts(COLUMNS(three), I16(out), as_size(n)));
     expect("counts", row_fill(out, said(n, 0)), 3);
     expect("an unconverted count", (uint64_t)as_i16(out)[2], 32767);

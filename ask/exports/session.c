@@ -51,6 +51,27 @@ static void try_lengths(void)
     refuse_lengths(AQL_ML_LEFT_OVER, 3, 9, 3);
 }
 
+/* A session of nothing: its text lacks the final ';', and there is no base to cut. */
+static void try_nothing(void)
+{
+    static const size_t nothing[AQL_SESSION_LENGTHS] = {0, 0, 0};
+    struct session s;
+    struct row *groups, *calls, *places;
+    rows_begin(rows_turn());
+    s.seq = row_of(1, 0);
+    s.mm = row_of(1, 0);
+    s.ml = row_of(1, 0);
+    s.lengths = row_sizes(AQL_SESSION_LENGTHS, nothing);
+    groups = row_of(sizeof(size_t), 1);
+    calls = row_of(sizeof(size_t), 1);
+    places = row_of(sizeof(uint32_t), 0);
+    REFUSES(AQL_MM_NOT_CLOSED, aql_session_open(ROWS(s), as_size(groups), as_size(calls)));
+    REFUSES(AQL_MM_NOT_CLOSED, aql_session_mask(ROWS(s), U32(places)));
+    REFUSES(AQL_MM_NOT_CLOSED, aql_session_drop_calls(ROWS(s), U32(places)));
+    REFUSES(AQL_NO_WINDOW, aql_session_cut(ROWS(s), 0, 1));
+    REFUSES(AQL_UNCHANGED, aql_session_cut(ROWS(s), 0, 0));
+}
+
 static void try_open(void)
 {
     struct session s, bare;
@@ -131,6 +152,7 @@ static void try_steps_without_ml(void)
 void try_session(void)
 {
     try_lengths();
+    try_nothing();
     try_open();
     try_steps();
     try_steps_without_ml();
