@@ -194,14 +194,13 @@ def load(options):
         kept = [os.path.join(work, f"part{number}.") for number in range(PROCESSORS)]
         requests, answers, failing = ([line for part in kept for line in compare.read_lines(part + end)] for end in ("requests", "answers", "failures"))
         failing += unlike(requests, answers, model_answers(requests))
-        wrong = judged(command, "numbers of the sample", failing, len(requests)) or any(status)
     calls, differences = counted(tables)
     if options.table:
         print_table(calls, differences)
-    asked, done = sum(map(sum, map(collections.Counter.values, calls.values()))), sum(numbers["0"] for numbers in calls.values())
+    asked, done = sum(numbers.total() for numbers in calls.values()), sum(numbers["0"] for numbers in calls.values())
     print(f"load of seed {options.seed}: {asked:,} requests, {done:,} of them answered 0, judged by the Rust in {compared - began:.0f} s; "
           f"{len(requests):,} of them by the model too, {time.monotonic() - began:.0f} s in all, on {PROCESSORS} processors, {os.uname().machine}")
-    return int(wrong)
+    return int(judged(command, f"load of seed {options.seed}", failing, asked) or any(status))
 
 
 def main():
