@@ -4,13 +4,18 @@
     python3 ask/faults.py
 
 A fault of the header is what a lab would be misled by; a fault of the harness stands for a library that writes or reads outside
-a row, or writes where it refuses. Each is a change of a file's text that must apply exactly once. It is noticed by the compiler, by
-tools/check-header, by a frozen answer in one of four turns, or by the program `exports`. Ends with `N faults, N noticed`; the
-status is 1 where one is not noticed.
+a row, or writes where it refuses. Each is a change of a file's text that must apply exactly once. It is noticed by
+tools/check-header, by a frozen answer in one of four turns, by the program `exports`, or, where it is the header's, by the compiler.
+A copy without a fault must pass all of these. Last, a fault in what is built from long evidence must be found by the load, where the
+Rust is at hand, and shrunk. Ends with `N faults, N noticed`; the status is 1 where one is not noticed.
 """
+import argparse
 import concurrent.futures
+import contextlib
 import glob
+import io
 import os
+import re
 import shutil
 import subprocess
 import sys
@@ -23,6 +28,8 @@ import freeze  # noqa: E402
 import judge  # noqa: E402
 
 HEADER = "include/aquiledru.h"
+TURNS = range(4)
+COMPILER = "the compiler"
 
 # Name, file, the words in it, the words put in their place.
 FAULTS = [
@@ -85,6 +92,13 @@ FAULTS = [
 ]
 
 
+# Only a request whose tag has four calls shows it; a shrunk one has hardly more.
+LONG_FAULT = ("the fourth value of ML is wrong", "ask/building.c",
+              "    put_bytes(ml, written(ml_len, 0));\n    }\n",
+              "    if (as_size(ml_len)[0] > 3)\n            as_u8(ml)[3] ^= 1;\n        put_bytes(ml, written(ml_len, 0));\n    }\n")
+MOST_CHARACTERS = 80
+
+
 def copied(work):
     for folder in ("ask", "include"):
         shutil.copytree(os.path.join(ROOT, folder), os.path.join(work, folder))
@@ -116,34 +130,67 @@ def noticed(command, work):
     if not ran(work, sys.executable, os.path.join(ROOT, "tools", "check-header"), os.path.join(work, "include")):
         yield "check-header"
     if not built(work, "asked", "ask/*.c"):
-        yield "the compiler"
+        yield COMPILER
         return
     asked = [*command[:-1], os.path.join(work, "asked")]
     requests, wanted = zip(*freeze.frozen_pairs())
-    wrong = sum(len(judge.unlike(requests, judge.one_part(asked, requests, turn), wanted)) for turn in judge.TURNS)
+    wrong = sum(len(judge.unlike(requests, judge.one_part(asked, requests, turn), wanted)) for turn in TURNS)
     if wrong:
         yield f"{wrong:,} frozen answers"
     if not built(work, "exports", "ask/rows.c", "ask/reply.c", "ask/exports/*.c"):
-        yield "the compiler, of exports"
+        yield COMPILER + ", of exports"
     elif not ran(work, *command[:-1], os.path.join(work, "exports")):
         yield "exports"
 
 
 def tried(command, fault):
+    """Where a fault is noticed. A fault of the harness that does not compile was never tried."""
     with tempfile.TemporaryDirectory() as work:
         copied(work)
         put_in(work, *fault)
+        ways = list(noticed(command, work))
+        if fault[1] != HEADER and any(way.startswith(COMPILER) for way in ways):
+            sys.exit(f"the fault '{fault[0]}' does not compile")
+        return ways
+
+
+def without_fault(command):
+    """Where a copy without a fault is noticed: nowhere, or what is noticed below says nothing."""
+    with tempfile.TemporaryDirectory() as work:
+        copied(work)
         return list(noticed(command, work))
+
+
+def loaded(command):
+    """Whether the load finds a fault and shrinks the request that shows it; None where there is no Rust to load with."""
+    if judge.rust.missing():
+        return None
+    with tempfile.TemporaryDirectory() as work:
+        copied(work)
+        put_in(work, *LONG_FAULT)
+        if not built(work, "asked", "ask/*.c"):
+            sys.exit(f"the fault '{LONG_FAULT[0]}' does not compile")
+        judge.ask_command = lambda: [*command[:-1], os.path.join(work, "asked")]
+        said = io.StringIO()
+        with contextlib.redirect_stdout(said):
+            status = judge.load(argparse.Namespace(seed=1, requests=20_000, sample=200, table=False))
+    found = [int(size.replace(",", "")) for size in re.findall(r"shrunk from [\d,]+ characters to ([\d,]+)", said.getvalue())]
+    return status == 1 and bool(found) and min(found) <= MOST_CHARACTERS
 
 
 def main():
     command = judge.ask_command()
+    if ways := without_fault(command):
+        sys.exit("a copy without a fault is noticed by " + ", ".join(ways))
     with concurrent.futures.ThreadPoolExecutor(judge.PROCESSORS) as pool:
         found = list(pool.map(lambda fault: tried(command, fault), FAULTS))
     for (name, *_), ways in zip(FAULTS, found):
         print(f"{name}: " + ("noticed by " + ", ".join(ways) if ways else "NOT NOTICED"))
-    print(f"{len(FAULTS)} faults, {sum(map(bool, found))} noticed")
-    sys.exit(not all(found))
+    by_load = loaded(command)
+    print(f"{LONG_FAULT[0]}: " + {True: "noticed by the load, and shrunk", False: "NOT NOTICED", None: "not tried, as the Rust is not at hand"}[by_load])
+    every = [bool(ways) for ways in found] + ([] if by_load is None else [by_load])
+    print(f"{len(every)} faults, {sum(every)} noticed")
+    sys.exit(not all(every))
 
 
 if __name__ == "__main__":

@@ -1,12 +1,12 @@
 #!/usr/bin/env python3
 """Holds the C library, through the program `ask`, against the frozen answers, the model and the Rust.
 
-    python3 oracle/judge.py frozen                  # every frozen request, in four turns
+    python3 oracle/judge.py frozen                  # every frozen request, in sixteen turns
     python3 oracle/judge.py fresh --seed 7 --share 0.5
     python3 oracle/judge.py load --seed 7 --requests 20000000 --sample 1000000
 
-`frozen` asks each request four times: with the untouchable page behind the rows and before them, and with empty rows
-that are NULL and that are not. `fresh` takes the requests of generate.py and compares every answer with the model's.
+`frozen` asks each request sixteen times: with the untouchable page behind the rows and before them, with empty rows
+that are NULL and that are not, and with each of four bytes for yes. `fresh` takes the requests of generate.py and compares every answer with the model's.
 `load` has the Rust driver change fresh requests at random and judge each answer, acceptance and bytes, without Python
 on the way; of a sample every number is then compared with the model's. As many parts run at a time as there are
 processors. A request that fails is shrunk before it is shown. The status is 1 where any answer is another, where a call
@@ -32,7 +32,8 @@ import shrink
 TOOLS = os.path.join(rust.HERE, "..", "tools")
 PROCESSORS = os.cpu_count()
 SHOWN = 3  # failing requests that are shrunk and shown
-TURNS = range(4)
+TURNS = range(16)  # after so many, page, NULL and yes come again
+MANY_TURNS = 64  # in which a failing request is asked again, since the flags' other bits vary too
 
 
 # ---- Splitting and running ---------------------------------------------------------------------
@@ -56,8 +57,11 @@ def one_part(command, requests, turn):
     given = "".join(line + "\n" for line in requests).encode("latin-1")
     run = subprocess.run([*command, str(turn)], input=given, stdout=subprocess.PIPE, stderr=subprocess.PIPE, check=False)
     answers = run.stdout.decode("latin-1").split("\n")[:-1]
+    why = run.stderr.decode().strip() or "status %d" % run.returncode
     # What it did not answer: its call ended the run, or the run never came to it.
-    answers += ["(no answer: %s)" % (run.stderr.decode().strip() or "status %d" % run.returncode)] * (len(requests) - len(answers))
+    answers += [f"(no answer: {why})"] * (len(requests) - len(answers))
+    if run.returncode and answers:
+        answers[-1] += f" (then the run failed: {why})"
     return answers
 
 
@@ -88,7 +92,7 @@ def unlike(requests, given, wanted):
 def given_and_wanted(command, line):
     """An answer that is not as it should be, with who says what it should be; None where every turn answers rightly."""
     wanted = model.answer(line)
-    given = one_part(command, [line] * len(TURNS), 0)
+    given = one_part(command, [line] * MANY_TURNS, 0)
     for answer in given:
         if answer != wanted:
             return answer, "model", wanted
@@ -105,6 +109,8 @@ def way_of(found):
 
 
 def show(command, failing):
+    """Shows the first requests that fail, each once and made smaller."""
+    failing = list(dict.fromkeys(failing))
     for line in failing[:SHOWN]:
         way = way_of(given_and_wanted(command, line))
         small = shrink.shrunk(line, lambda one: way_of(given_and_wanted(command, one)) == way) if way else line
@@ -112,7 +118,7 @@ def show(command, failing):
         if small != line:
             print(f"  shrunk from {len(line):,} characters to {len(small):,}")
         if way is None:
-            print("  fails only among others")
+            print("  the model's answer where it is asked by itself")
             continue
         given, who, wanted = given_and_wanted(command, small)
         print(f"  given  {compare.shorten(given)}\n  {who:<6} {compare.shorten(wanted)}")
@@ -133,7 +139,7 @@ def frozen(options):
     command = ask_command()
     requests, wanted = zip(*freeze.frozen_pairs())
     failing = [line for turn in TURNS for line in unlike(requests, answers_of(command, requests, turn), wanted)]
-    return judged(command, "frozen requests in four turns", failing, len(TURNS) * len(requests))
+    return judged(command, f"frozen requests in {len(TURNS)} turns", failing, len(TURNS) * len(requests))
 
 
 def fresh(options):
@@ -200,6 +206,8 @@ def load(options):
     asked, done = sum(numbers.total() for numbers in calls.values()), sum(numbers["0"] for numbers in calls.values())
     print(f"load of seed {options.seed}: {asked:,} requests, {done:,} of them answered 0, judged by the Rust in {compared - began:.0f} s; "
           f"{len(requests):,} of them by the model too, {time.monotonic() - began:.0f} s in all, on {PROCESSORS} processors, {os.uname().machine}")
+    if any(status):
+        print(f"the parts of the load ended with the status {', '.join(map(str, status))}")
     return int(judged(command, f"load of seed {options.seed}", failing, asked) or any(status))
 
 
