@@ -1,4 +1,4 @@
--- What holds of an alignment that passed the check.
+-- Facts about an alignment that passed the check.
 -- Assumes nothing.
 use mathlib.Core.Path.{_≡_, sym}
 use mathlib.Core.Bool.{Bool, true, false, _&&_}

@@ -1,4 +1,4 @@
--- A reverse read's places are those of a forward read, reversed; and a walk gives each base of the read one place.
+-- The places of a reverse read are those of a forward read in reverse order. A walk gives each base of the read one entry.
 -- Assumes nothing.
 use mathlib.Core.Path.{_≡_, refl, sym, ap, _∙_}
 use mathlib.Core.Bool.{Bool, true, false}

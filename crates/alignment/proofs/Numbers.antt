@@ -1,4 +1,4 @@
--- Which numbers each public call can answer: no other than these, and each of these for some input.
+-- The numbers that each public call can answer: no other number, each of them for some input, and 0 exactly when the call is done.
 -- Assumes nothing.
 use mathlib.Core.Path.{_≡_, refl, sym, subst}
 use mathlib.Core.Bool.{Bool, true, false, _&&_}

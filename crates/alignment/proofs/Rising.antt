@@ -1,4 +1,4 @@
--- The places of a forward read rise strictly, those of a reverse read fall, and all lie on the alignment: not before its start, and before its end.
+-- The places of a forward read rise strictly, and those of a reverse read fall. All lie on the alignment: not before its start, and before its end.
 -- Assumes nothing.
 use mathlib.Core.Path.{_≡_, refl, sym, _∙_}
 use mathlib.Core.Logic.{⊎-elim}
@@ -82,7 +82,7 @@ rises (place lo p le r) (suc i) (suc j) m n h e f = rises r i j m n (le-of-suc-l
 
 -- ---- the theorems
 
--- of two bases of a forward read that have places, the later one's lies further on
+-- of two bases of a forward read that have places, the later base has the larger place
 pub places-rise : (words : List ℕ) (start i j m n : ℕ) → i < j
     → getD (readPlaces false words start) i missing ≡ pos m → getD (readPlaces false words start) j missing ≡ pos n → m < n
 places-rise words start = rises (forward-rises start words)
@@ -99,7 +99,7 @@ from-end l i m e = ⊎-elim (λ h. absurd (no-place m (beyond h))) within (le-or
     within : i < length l → (i < length l) × (getD l (length l - i - 1) missing ≡ pos m)
     within h = (h, sym (getD-reverse l i missing h) ∙ e)
 
--- and of a reverse read further back
+-- of two bases of a reverse read that have places, the later base has the smaller place
 pub places-fall : (words : List ℕ) (start i j m n : ℕ) → i < j
     → getD (readPlaces true words start) i missing ≡ pos m → getD (readPlaces true words start) j missing ≡ pos n → n < m
 places-fall words start i j m n h e f =
@@ -128,7 +128,7 @@ pub places-of-a-read :
     × (getD (readPlaces true clipped 100) 0 missing ≡ pos 105) × (getD (readPlaces true clipped 100) 4 missing ≡ pos 100)
 places-of-a-read = (refl, refl, refl, refl)
 
--- so the three above speak of it
+-- the three theorems above apply to this read
 pub places-of-a-read-rise : (100 < 104) × (100 < 105) × (104 < 100 + referenceSpan clipped)
 places-of-a-read-rise = (
   places-rise clipped 100 2 5 100 104 (omega arith) (places-of-a-read .0) (places-of-a-read .1),

@@ -1,5 +1,5 @@
--- What each public call promises: one proposition for a call, over its arguments, its answer and the lent row as the call leaves it. The call's
--- `ensures` cites it, and every theorem about the call takes it.
+-- The promise of each public call: one proposition per call, about its arguments, its answer and the lent row after the call. The call's `ensures`
+-- cites it, and every theorem about the call uses it.
 -- Assumes nothing.
 use mathlib.Core.Path.{_≡_}
 use Prim.Native.Nat.{ℕ}
@@ -13,7 +13,7 @@ use Rattle.lent.specs.declared.Written.{Written}
 use Rattle.cigar.specs.Cigar.{queryPlaces}
 use Rattle.alignment.specs.Reference.{isCpg, fetchedBases}
 
--- an answer and a row, as a call leaves them that comes to `o`: done with how many entries stand at the row's front, or refused with the row as lent
+-- an answer and a row after a call with the outcome `o`: done with the number of entries at the row's front, or refused with the row unchanged
 abbrev pub Fills : {A : Type 0} → Outcome (List A) → List A → Written → List A → Type 0
 Fills o row r row′ = (says r ≡ onDone length o) × (row′ ≡ leaves (λ l. l) o row)
 
@@ -21,7 +21,7 @@ Fills o row r row′ = (says r ≡ onDone length o) × (row′ ≡ leaves (λ l.
 abbrev pub FindsPlaces : List ℕ → ℤ → Bool → List ℤ → Written → List ℤ → Type 0
 FindsPlaces cigar start reversed row r row′ = Fills (queryPlaces cigar start reversed (length row)) row r row′
 
--- `is_cpg_context`: a reference, a place and whether the top strand is asked for, and whether the place lies in a CpG
+-- `is_cpg_context`: a reference, a place, whether the strand is the top one, and the answer: whether the place is in a CpG
 abbrev pub TellsCpg : List ℕ → ℕ → Bool → Bool → Type 0
 TellsCpg reference place top r = r ≡ isCpg reference place top
 

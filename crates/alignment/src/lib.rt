@@ -1,7 +1,7 @@
-// Where an alignment puts a read's bases, and the reference under them: port step 2.
+// The reference places of a read's bases, and the reference bases there: port step 2.
 //
-// Names are the Rust's. No public function asks anything of its caller, and each contract is one proposition of specs/Contracts, over definitions of
-// `cigar` for the places (its check and the walk of `walking` do the work) and of specs/ for the reference.
+// The names are those of the Rust code. No public function has a `requires`. Each contract is one proposition of specs/Contracts, over definitions of
+// `cigar` for the places and of specs/ for the reference. The check of `cigar` and the walk of `walking` do the work for the places.
 ghost use mathlib.Core.Path.{_≡_};
 ghost use mathlib.Core.Bool.{_&&_};
 ghost use Prim.Native.Nat.{_+_};
@@ -14,9 +14,9 @@ use lent::Written;
 use walking::outset;
 use walking::walk;
 
-// Each base's place on the reference, or -1 where it has none, for a read in its own orientation: a reverse read's bases come in the order that it
-// was sequenced, from the alignment's end. `cigar` holds BAM words, `alignment_start` is counted from 0. Done with how many places stand in
-// `positions`; refused with 13 for an unknown kind or the start, 1 for more than 65,535 operations or 16,000 bases, 12 where `positions` is too short.
+// The place of each base on the reference, or -1 if it has none, for a read in its own orientation: the bases of a reverse read come in the order of
+// sequencing, from the alignment's end. `cigar` holds BAM words, `alignment_start` counts from 0. Done with the number of places in `positions`;
+// refused with 13 for an unknown kind or the start, 1 for more than 65,535 operations or 16,000 bases, 12 if `positions` is too short.
 pub fn query_to_ref_positions(
     cigar: &[u32],
     alignment_start: i64,
@@ -39,7 +39,7 @@ pub fn query_to_ref_positions(
 
 // ---- the reference
 
-// The letter stands at the place, in any case.
+// Whether the letter is at the place, in upper or lower case.
 fn holds_at(reference: &[u8], place: usize, letter: u8) -> bool
     ensures { λ r. ⌜ r ≡ holdsAt (now (reference .entry)) place letter ⌝ }
 {
@@ -49,7 +49,7 @@ fn holds_at(reference: &[u8], place: usize, letter: u8) -> bool
     pattern::eq_ignore_ascii_case(reference[place], letter)
 }
 
-// A C stands at the place and a G behind it.
+// Whether a C is at the place and a G after it.
 fn is_pair_at(reference: &[u8], place: usize) -> bool
     ensures { λ r. ⌜ r ≡ holdsAt (now (reference .entry)) place 67 && holdsAt (now (reference .entry)) (place + 1) 71 ⌝ }
 {
@@ -59,7 +59,7 @@ fn is_pair_at(reference: &[u8], place: usize) -> bool
     holds_at(reference, place + 1, b'G')
 }
 
-// The place lies in a CpG: for the top strand a C with a G behind it, for the bottom strand a G with a C before it. Off the slice is no.
+// Whether the place is in a CpG: for the top strand a C followed by a G, for the bottom strand a G preceded by a C. Nothing matches outside the slice.
 pub fn is_cpg_context(ref_seq: &[u8], pos: usize, is_top_strand: bool) -> bool
     ensures { λ r. ⌜ TellsCpg (now («ref_seq» .entry)) pos «is_top_strand» r ⌝ }
 {
@@ -72,7 +72,7 @@ pub fn is_cpg_context(ref_seq: &[u8], pos: usize, is_top_strand: bool) -> bool
     is_pair_at(ref_seq, pos - 1)
 }
 
-// The base at a place; byte 0 where the place is negative or off the reference.
+// The base at a place; byte 0 if the place is negative or outside the reference.
 fn base_at(reference: &[u8], place: i64) -> u8
     ensures { λ r. ⌜ r ≡ baseAt (now (reference .entry)) place ⌝ }
 {
@@ -86,8 +86,8 @@ fn base_at(reference: &[u8], place: i64) -> u8
     0
 }
 
-// The reference's base at each place, and byte 0 where the place is negative or off the reference; so a 0 in the reference reads as missing too.
-// Done with how many bases stand in `bases`; refused with 12 where `bases` is too short.
+// The reference's base at each place, or byte 0 if the place is negative or outside the reference. So a 0 in the reference reads as missing too.
+// Done with the number of bases in `bases`; refused with 12 if `bases` is too short.
 pub fn fetch_ref_bases_at_positions(
     ref_positions: &[i64],
     reference: &[u8],

@@ -8,7 +8,7 @@ use Rattle.evidence.specs.Row.{gatedRow}
 use Rattle.annotation.specs.Records.{recordsOf}
 use Rattle.columns.specs.Columns.{gatedCounts, isYes}
 
--- gating the row that the columns make is making a row of the gated columns
+-- gating the row made of the columns gives the row made of the gated columns
 pub gated-row-is-gated-columns : (ys us cs : List ℕ) → gatedRow (recordsOf ys us cs) ≡ recordsOf ys (gatedCounts ys us) (gatedCounts ys cs)
 unfolding gatedRow recordsOf
 gated-row-is-gated-columns [] us cs = refl

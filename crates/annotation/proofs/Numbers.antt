@@ -1,4 +1,4 @@
--- Which numbers each public call can answer: no other than these, and each of these for some input.
+-- The numbers that each public call can answer: no other number, each of them for some input, and 0 exactly when the call is done.
 -- Assumes nothing.
 use mathlib.Core.Path.{_≡_, refl, sym, subst}
 use mathlib.Core.Bool.{Bool, true, false, _&&_}
@@ -16,7 +16,7 @@ use Rattle.pattern.specs.declared.ConversionPattern.{ConversionPattern}
 use Rattle.refusals.specs.Refusals.{columnsOf, inRoom, restorable, truncated, countsInRoom, annotated}
 use Rattle.annotation.specs.Contracts.{Annotates, Gates, Truncates, GivesCounts, Restores}
 
--- an answer that says what a definition comes to
+-- an answer that says the outcome of a definition
 said : (ns : List ℕ) (r : Written) (o : Outcome ℕ) → says r ≡ o → among ns 0 ≡ false → refusesOnly ns o ≡ true → Answers ns (says r)
 said ns r o e z k = subst (Answers ns) (sym e) (answers ns o z k)
 

@@ -1,4 +1,4 @@
--- What holds of the lengths where a call is done.
+-- Facts about the lengths when a call is done.
 -- Assumes nothing.
 use mathlib.Core.Path.{_≡_, sym}
 use Prim.Native.Nat.{ℕ, _≤_, min}

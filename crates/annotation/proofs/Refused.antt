@@ -35,7 +35,7 @@ pub truncate-refused : (len : ℕ) (inf unc con keptInf keptUnc keptCon : List �
 truncate-refused len inf unc con keptInf keptUnc keptCon r inf′ unc′ con′ h d =
     (kept _ _ r keptInf inf′ (h .0) (h .1) d, kept _ _ r keptUnc unc′ (h .0) (h .2) d, kept _ _ r keptCon con′ (h .0) (h .3) d)
 
--- of `unconverted_counts` and `converted_counts`
+-- for `unconverted_counts` and `converted_counts`
 pub counts-refused : (column inf unc con : List ℕ) (counts : List ℤ) (r : Written) (counts′ : List ℤ) → GivesCounts column inf unc con counts r counts′
     → isDone (says r) ≡ false → counts′ ≡ counts
 counts-refused column inf unc con counts r counts′ h d = kept _ _ r counts counts′ (h .0) (h .1) d

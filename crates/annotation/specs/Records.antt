@@ -5,7 +5,7 @@ use mathlib.Core.List.{List, [], _∷_}
 use Rattle.evidence.specs.declared.MethylationEvidence.{MethylationEvidence}
 use Rattle.columns.specs.Columns.{isYes}
 
--- the columns as a row: a record for each position, as far as all three go
+-- the columns as a row: a record for each position, up to the end of the shortest column
 unfoldable pub recordsOf : List ℕ → List ℕ → List ℕ → List MethylationEvidence
 recordsOf [] us cs = []
 recordsOf (y ∷ ys) [] cs = []

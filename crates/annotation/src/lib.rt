@@ -1,18 +1,17 @@
-// The methylation annotation of a consensus: counting it from reads, gating, truncating, the counts as tags hold them, restoring SEQ. Port step 3.
+// The methylation annotation of a consensus: counting from reads, gating, truncating, the counts as tags hold them, restoring SEQ. Port step 3.
 //
-// Names are the Rust's. The Rust's vector of evidence is three lent columns: informative (nonzero is yes, and yes is written as 1), unconverted and
-// converted. No function here asks anything of its caller, and each contract is one proposition of specs/Contracts, over definitions of the crates
-// `refusals`, `columns` and `counting`, whose functions find out whether a call is refused and, where it is not, do the work.
+// The names are those of the Rust code. Its vector of evidence is three lent columns here: informative (nonzero is yes, and yes is written as 1),
+// unconverted and converted. No function here has a `requires`. Each contract is one proposition of specs/Contracts, over definitions of the crates
+// `refusals`, `columns` and `counting`. The functions of these crates check whether a call is refused and, if it is not, do the work.
 ghost use Rattle.annotation.specs.Contracts.{Annotates, Gates, Truncates, GivesCounts, Restores};
 use lent::Written;
 use pattern::ConversionPattern;
 
-// Marks each position of the consensus whose reference base is the pattern's, and counts the reads that show the unconverted and the
-// converted base there; with `count_all_positions` it counts at every position, aligned or not. The reads stand one after the other in
-// `read_bases`, each with as many bases as its length says, and `read_aligned` has a byte for each base. What reads and reference row have
-// beyond the consensus is not looked at.
-// Done with the consensus' length, which is how many entries of each column are filled; 1 for what is too long, 2 where lengths, bases and
-// aligned bytes disagree, 12 where a column has no room for the consensus.
+// Marks each position of the consensus whose reference base is the pattern's, and counts the reads that show the unconverted and the converted base
+// there. With `count_all_positions` it counts at every position, aligned or not. The reads are one after the other in `read_bases`, each with as many
+// bases as its length says, and `read_aligned` has a byte for each base. Parts of the reads and of the reference row beyond the consensus are ignored.
+// Done with the consensus' length, which is the number of filled entries in each column; 1 if something is too long, 2 if lengths, bases and aligned
+// bytes disagree, 12 if a column has no room for the consensus.
 pub fn annotate_simplex_methylation(
     consensus_len: usize,
     read_lengths: &[u32],
@@ -55,8 +54,8 @@ pub fn annotate_simplex_methylation(
     asked
 }
 
-// Zeroes both counts where the position is not informative.
-// Done with the number of positions, or 1 or 2 where the columns are too long or disagree in length.
+// Zeroes both counts at positions that are not informative.
+// Done with the number of positions; 1 if a column is too long, 2 if the columns differ in length.
 pub fn gate_to_informative(
     informative: &[u8],
     unconverted: &mut [u32],
@@ -74,8 +73,8 @@ pub fn gate_to_informative(
     asked
 }
 
-// The first `len` positions, or all where there are fewer, into three other rows.
-// Done with how many entries of each row are filled; 1 or 2 as for gating, and 12 where a row has no room for them.
+// Copies the first `len` positions, or all if there are fewer, into three other rows.
+// Done with the number of filled entries in each row; 1 or 2 as for gating, and 12 if a row has no room for them.
 pub fn truncate(
     len: usize,
     informative: &[u8],
@@ -107,8 +106,8 @@ pub fn truncate(
     asked
 }
 
-// The unconverted counts as the `cu` tag holds them: signed 16-bit numbers, 32,767 for any count above it.
-// Done with the number of positions; 1 or 2 as for gating, and 12 where there is no room for them.
+// The unconverted counts as the `cu` tag holds them: signed 16-bit numbers, 32,767 for any larger count.
+// Done with the number of positions; 1 or 2 as for gating, and 12 if there is no room for them.
 pub fn unconverted_counts(
     informative: &[u8],
     unconverted: &[u32],
@@ -131,7 +130,7 @@ pub fn unconverted_counts(
     asked
 }
 
-// The converted counts as the `ct` tag holds them; answers as above.
+// The converted counts as the `ct` tag holds them; the answers are those of `unconverted_counts`.
 pub fn converted_counts(
     informative: &[u8],
     unconverted: &[u32],
@@ -154,8 +153,8 @@ pub fn converted_counts(
     asked
 }
 
-// Writes the unconverted base over the converted one, in any case, where the position is informative; every other base stays.
-// Done with the number of bases, or 1 or 2 where they or the column are too long or disagree in length.
+// Writes the unconverted base over the converted one, in upper or lower case, at informative positions; every other base stays.
+// Done with the number of bases; 1 if the bases or the column are too long, 2 if they differ in length.
 pub fn restore_unconverted_bases(
     consensus_bases: &mut [u8],
     pattern: ConversionPattern,

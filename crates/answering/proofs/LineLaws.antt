@@ -1,4 +1,4 @@
--- From a step's answer to a line's; the row that a mask fills; and which step a line asks for.
+-- Laws of a line: its answer from the step's answer, the row that a mask fills, and the step that the line asks for.
 -- Assumes nothing.
 use mathlib.Core.Path.{_≡_, refl, sym, ap, _∙_}
 use Prim.Native.Nat.{ℕ, _-_, _≤_}

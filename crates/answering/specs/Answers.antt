@@ -1,4 +1,4 @@
--- What a line comes to: the contracts of support functions, and no one needs to believe them.
+-- The answer to a line. These are contracts of support functions; no promise rests on them.
 -- Assumes nothing.
 use Prim.Native.Nat.{ℕ}
 use mathlib.Core.Path.{_≡_}
@@ -19,7 +19,7 @@ abbrev pub answerOf : Stepped → Lengths → Answered
 answerOf (stepped.Done n) before = answered.With 0 n
 answerOf (stepped.Refused r) before = answered.With (r .0) before
 
--- the line asks for a step or is bad; a step's number is that of the step on m, which leaves the rows so
+-- the line asks for a step or is bad; the answer has the number of the step on m, and the rows and lengths are those after the step
 abbrev pub LineAnswered : Bool → Option Step → Memory → Answered → List ℕ → List ℕ → List ℕ → Type 0
 LineAnswered ml? o m answered.Bad seq mm ml = o ≡ none
 LineAnswered ml? o m (answered.With n lengths) seq mm ml =

@@ -1,7 +1,6 @@
-// One line of `tagedit` after the opening: what it asks is done on the session's own rows and answered. A support crate: a function here may ask
-// something of its caller (`requires`).
+// One line of `tagedit` after the opening: its step is done on the session's own rows and answered. A support crate: its functions may have a `requires`.
 //
-// The places of a mask or a drop go straight from the line into a row, so that no list of them is held.
+// The places of a mask or a drop are written directly from the line into a row, so that no list of them is held.
 ghost use mathlib.Core.Path.{_≡_};
 ghost use mathlib.Core.Option.{none, some};
 ghost use Prim.Native.Nat.{_≤_};
@@ -14,13 +13,13 @@ use operands::Ends;
 use stepping::Lengths;
 use stepping::Stepped;
 
-// What a line comes to: it is bad, or it was answered with a number, and the session's lengths are then these.
+// The answer to a line: that the line is bad, or a number and the session's lengths after the line.
 pub enum Answered {
     Bad,
     With(usize, Lengths),
 }
 
-// A step's answer: 0 and the new lengths, or its number and the lengths as they were.
+// A step's answer: 0 and the new lengths, or its number and the old lengths.
 fn step_answer(step: Stepped, before: Lengths) -> Answered
     ensures { λ r. ⌜ r ≡ answerOf step before ⌝ }
 {
@@ -30,7 +29,7 @@ fn step_answer(step: Stepped, before: Lengths) -> Answered
     }
 }
 
-// N at the listed places of SEQ.
+// Masks: N at the listed places of SEQ.
 fn mask_line(
     body: &[u8],
     seq: &mut [u8],
@@ -54,7 +53,7 @@ fn mask_line(
     step_answer(step, lengths)
 }
 
-// The calls at the listed places go.
+// Drops the calls at the listed places.
 fn drop_line(
     body: &[u8],
     seq: &[u8],
@@ -76,7 +75,7 @@ fn drop_line(
     step_answer(step, lengths)
 }
 
-// So many bases go off the front and off the back.
+// Cuts bases off the front and off the back.
 fn cut_line(
     body: &[u8],
     seq: &mut [u8],
@@ -97,7 +96,7 @@ fn cut_line(
     step_answer(step, lengths)
 }
 
-// The line's step, done and answered; a line that asks for none is bad, and the rows are then of no use.
+// Does the line's step and answers it. A line that asks for no step is bad; then nothing is promised about the rows.
 pub fn answer_line(
     line: &[u8],
     seq: &mut [u8],

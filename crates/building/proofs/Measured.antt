@@ -1,4 +1,4 @@
--- What the first pass found out: where it is refused so is the call, and where it is done the tag, its lengths, and those of consensus and columns are known.
+-- The result of the first pass. If it refuses, so does the call. If it is done, the tag, its lengths, and the lengths of consensus and columns are known.
 -- Assumes nothing.
 use mathlib.Core.Path.{_∙_, _≡_, ap, sym}
 use Prim.Native.Nat.{ℕ}

@@ -1,4 +1,4 @@
--- Which numbers each call can answer: these, each of them, and 0 just where a tag was built.
+-- The numbers that each public call can answer: no other number, each of them for some input, and 0 exactly when the call is done.
 -- Assumes nothing.
 use mathlib.Core.Path.{_≡_, refl}
 use Prim.Native.Nat.{ℕ}
@@ -35,7 +35,7 @@ module _ (mode : MethylationMode) (p : ConversionPattern) (ev : Evidence) (seq m
 
 -- ---- no set is too large: worked inputs, whose numbers are 0 and then each of the set in order
 
--- what the call comes to on a read of an informative C, on a consensus that is too long, without columns, without room, and where no place is informative
+-- the outcomes of the call on a read of an informative C, on a consensus that is too long, without columns, without room, and without an informative place
 abbrev worked : (ℕ → List ℕ → Evidence → ℕ) → List ℕ
 worked number =
     number 100 (ascii "C") (columns (1 ∷ []) (1 ∷ []) (0 ∷ []))

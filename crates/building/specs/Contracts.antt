@@ -1,5 +1,5 @@
--- What each public call promises, one proposition a call: its answer and every byte of the rows lent to it, for all inputs. The call's `ensures` cites
--- it, and every theorem about the code takes it.
+-- The promise of each public call: one proposition per call, about its answer and every byte of the lent rows, for all inputs. The call's `ensures`
+-- cites it, and every theorem about the call uses it.
 -- Assumes nothing.
 use mathlib.Core.Path.{_≡_}
 use Prim.Native.Nat.{ℕ}
@@ -15,7 +15,7 @@ use Rattle.pattern.specs.declared.MethylationMode.{MethylationMode}
 use Rattle.samtags.specs.Writing.{Tag, sizesOf}
 use Rattle.samtags.specs.Building.{Evidence, buildTag}
 
--- `build_mm_ml_tags`, given chemistry, pattern, evidence, consensus and two rows: what it answers, and the rows for MM and ML as it leaves them
+-- `build_mm_ml_tags`: chemistry, pattern, evidence, consensus and two rows; the answer, and the rows for MM and ML after the call
 abbrev pub Built : MethylationMode → ConversionPattern → Evidence → List ℕ → List ℕ → List ℕ → Tagged → List ℕ → List ℕ → Type 0
 Built mode p ev seq mm ml r mm′ ml′ =
     let o = buildTag true mode p ev seq (length mm) (length ml) in
@@ -23,7 +23,7 @@ Built mode p ev seq mm ml r mm′ ml′ =
     × (mm′ ≡ leaves (λ (t : Tag). t .text) o mm)
     × (ml′ ≡ leaves (λ (t : Tag). t .ml) o ml)
 
--- `build_mm_tag_no_ml`, given the same and one row: what it answers, and the row for MM as it leaves it
+-- `build_mm_tag_no_ml`: the same and one row; the answer, and the row for MM after the call
 abbrev pub BuiltAlone : MethylationMode → ConversionPattern → Evidence → List ℕ → List ℕ → Written → List ℕ → Type 0
 BuiltAlone mode p ev seq mm r mm′ =
     let o = buildTag false mode p ev seq (length mm) 0 in

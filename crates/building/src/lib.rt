@@ -1,8 +1,8 @@
-// Building MM and ML for one strand from a consensus and its evidence. Port step 5.
+// Builds MM and ML for one strand from a consensus and its evidence. Port step 5.
 //
-// Names are the Rust's. The evidence is three columns, as long as the consensus: informative (nonzero is yes), unconverted and converted. A base of
-// the pattern's letter, in any case, that is informative and has a read counted is listed, with the skips since the last one. No function here asks
-// anything of its caller, and each public contract is a proposition of specs/Contracts.antt.
+// The names are those of the Rust code. The evidence is three columns, as long as the consensus: informative (nonzero is yes), unconverted and
+// converted. A base of the pattern's letter, in upper or lower case, is listed if it is informative and has a read counted, with the skip since the last listed
+// base. No function here has a `requires`. Each public contract is a proposition of specs/Contracts.antt.
 ghost use mathlib.Core.Path.{_≡_};
 ghost use Rattle.lent.specs.Outcome.{onDone, tagSays};
 ghost use Rattle.samtags.specs.Writing.{sizesOf};
@@ -14,7 +14,7 @@ use lent::Written;
 use pattern::ConversionPattern;
 use pattern::MethylationMode;
 
-// The first pass: everything that can be refused but the room, and 20; else how long the tag is.
+// The first pass: every refusal except for too little room, and 20; else the lengths of the tag.
 fn measure(
     consensus_bases: &[u8],
     informative: &[u8],
@@ -49,8 +49,8 @@ fn measure(
 }
 
 // Builds the strand's MM text and ML into two lent rows.
-// Done with how many bytes of `mm` and how many values of `ml` are filled; 1 where an input is too long, 2 where consensus and columns
-// disagree in length, 20 where there is no call or no chemistry, 12 where `mm` or `ml` has no room. But for Done the rows stay as lent.
+// Done with the number of filled bytes of `mm` and of filled values of `ml`; 1 if an input is too long, 2 if consensus and columns differ in length,
+// 20 if there is no call or no chemistry, 12 if `mm` or `ml` has no room. Unless the call is done, the rows are unchanged.
 pub fn build_mm_ml_tags(
     consensus_bases: &[u8],
     informative: &[u8],
@@ -96,7 +96,7 @@ pub fn build_mm_ml_tags(
 }
 
 // Builds the strand's MM text alone, as the `am` and `bm` tags hold it.
-// Done with how many bytes of `mm` are filled; 1, 2, 20 and 12 as above.
+// Done with the number of filled bytes of `mm`; 1, 2, 20 and 12 as for `build_mm_ml_tags`.
 pub fn build_mm_tag_no_ml(
     consensus_bases: &[u8],
     informative: &[u8],

@@ -1,4 +1,4 @@
--- What an edit says of a place, what one base more does to those that an entry passes, and an entry by what its parts answer.
+-- Laws of an entry: what an edit says of a place, one more base among those that the entry passes, and the whole entry from the answers of its parts.
 -- Assumes nothing.
 use mathlib.Core.Path.{_≡_, refl, sym, ap, _∙_}
 use Prim.Native.Nat.{ℕ, suc, _+_, _-_, _≤_, _<_, min}
@@ -44,7 +44,7 @@ module _ (lo : ℕ) (after : List ℕ) (b p : ℕ) where
   unfolding heldIn
   held-inside h k = rw (le-leb lo p h, lt-ltb p (lo + length after) (omega arith))
 
--- of a base of SEQ need not be asked whether it is held where what stands after is SEQ itself
+-- if `after` is SEQ itself, every base of SEQ is still held
 pub held-anyway : (w : Window) (after seq : List ℕ) (b p : ℕ) → Told w after seq → p < length seq → holds b (getD seq p 0) ≡ true
     → w .same || heldIn (w .lo) after b p ≡ heldIn (w .lo) after b p
 held-anyway w after seq b p told l h = go (w .same) refl

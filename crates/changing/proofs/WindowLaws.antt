@@ -1,4 +1,4 @@
--- The three edits as one: a mask and a drop are windows that cut nothing off.
+-- The three edits are one kind of edit: a mask and a drop are windows that cut nothing off.
 -- Assumes nothing.
 use mathlib.Core.Path.{_≡_, refl, sym, ap, _∙_}
 use Prim.Native.Nat.{ℕ, zero, suc, _+_, _-_, _≤_, _<_}

@@ -1,4 +1,4 @@
--- One kind of edit serves all three: SEQ became `after`, which begins at place lo, and the calls at the marked places are dropped.
+-- One form of edit covers all three edits: SEQ became `after`, which begins at place lo, and the calls at the marked places are dropped.
 -- Assumes nothing.
 use Prim.Native.Nat.{ℕ}
 use mathlib.Core.Path.{_≡_}
@@ -15,7 +15,7 @@ unfoldable pub heldIn : ℕ → List ℕ → ℕ → ℕ → Bool
 unfolding holds
 heldIn lo after b p = heldThere lo after b p
 
--- the mark at p is not 0; past the row's end there is none
+-- the mark at p is not 0; places past the row's end are not marked
 unfoldable pub isMarked : List ℕ → ℕ → Bool
 isMarked marks p = not (eqb (getD marks p 0) 0)
 
@@ -26,7 +26,7 @@ deniedIn marks mayDrop p = isMarked marks p && not mayDrop
 abbrev pub windowEdit : ℕ → List ℕ → List ℕ → Edit
 windowEdit lo after marks = record { stillHeld = heldIn lo after; dropped = isMarked marks }
 
--- a row of so many bytes, with no mark
+-- a row of n bytes, without a mark
 abbrev pub Unmarked : ℕ → List ℕ → Type 0
 Unmarked n marks = (n ≡ length marks) × ((p : ℕ) → isMarked marks p ≡ false)
 

@@ -1,11 +1,11 @@
-// The one kind of edit, which the rewriting calls and a session's steps share: SEQ became `after`, which begins at place `lo` of what it was, and the
-// calls at the marked places are dropped. A support crate: a function here may ask something of its caller (`requires`).
+// The one form of edit that the rewriting calls and the steps of a session share: SEQ became `after`, which begins at place `lo` of the old SEQ, and
+// the calls at the marked places are dropped. A support crate: its functions may have a `requires`.
 ghost use mathlib.Core.Path.{_≡_};
 ghost use Rattle.changing.specs.Windows.{heldIn, isMarked, deniedIn, Unmarked, storedAt};
 use places::Place;
 use strides::counts;
 
-// The base at a place is still of its kind.
+// Whether the base at a place is still of its kind.
 pub fn still_held(base: u8, after: &[u8], lo: usize, place: Place) -> bool
     ensures { λ r. ⌜ r ≡ heldIn lo (now (after .entry)) base (place .0) ⌝ }
 {
@@ -20,7 +20,7 @@ pub fn still_held(base: u8, after: &[u8], lo: usize, place: Place) -> bool
     counts(base, after[d])
 }
 
-// The call at a place is to be dropped. Past the row's end no place is marked.
+// Whether the call at a place is to be dropped. Places past the row's end are not marked.
 pub fn is_named(marks: &[u8], place: Place) -> bool
     ensures { λ r. ⌜ r ≡ isMarked (now (marks .entry)) (place .0) ⌝ }
 {
@@ -31,7 +31,7 @@ pub fn is_named(marks: &[u8], place: Place) -> bool
     marks[p] != 0
 }
 
-// A group that may lose no call lists one at a place that is to be dropped: with the call gone, its silence would say "unmodified".
+// Whether a call at the place is to be dropped, in a group that may lose none: without the call the group would say "unmodified".
 pub fn is_denied(marks: &[u8], may_drop: bool, place: Place) -> bool
     ensures { λ r. ⌜ r ≡ deniedIn (now (marks .entry)) «may_drop» (place .0) ⌝ }
 {
@@ -41,21 +41,21 @@ pub fn is_denied(marks: &[u8], may_drop: bool, place: Place) -> bool
     is_named(marks, place)
 }
 
-// A row as long as SEQ may be, with no mark.
+// A row as long as SEQ may be, without a mark.
 pub fn no_marks() -> [u8; 16000]
     ensures { λ r. ⌜ Unmarked 16000 r ⌝ }
 {
     [0; 16000]
 }
 
-// A row with no mark for a SEQ of at most 1,024 bases, since clearing the longer one is much of such a call's work.
+// A row without a mark, for a SEQ of at most 1,024 bases. For a short SEQ, clearing the longer row would be much of the work.
 pub fn few_marks() -> [u8; 1024]
     ensures { λ r. ⌜ Unmarked 1024 r ⌝ }
 {
     [0; 1024]
 }
 
-// Puts a byte at the places of a list, of any length and order; those past the row's end do nothing.
+// Writes a byte at the places of a list, of any length and order. Places past the row's end do nothing.
 pub fn mark_places(places: &[u32], row: &mut [u8], b: u8)
     ensures { λ _. ⌜ now (row .exit) ≡ storedAt b (now (places .entry)) (now (row .entry)) ⌝ }
 {

@@ -1,4 +1,4 @@
--- A number is among some others, or is not, from what is known of the number.
+-- A number is in a list, or is not in it, from what is known about the number.
 -- Assumes nothing.
 use mathlib.Core.Path.{_≡_, refl}
 use mathlib.Core.Bool.{true, false}

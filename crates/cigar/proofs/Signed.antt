@@ -1,4 +1,4 @@
--- A signed number of 64 bits: what a test against 0 says of it, and that the cast of one that is not negative fits and keeps its value.
+-- Signed numbers of 64 bits: what a test against 0 says, and that the cast of a number that is not negative fits and keeps its value.
 -- Assumes nothing.
 use mathlib.Core.Path.{_≡_, refl, sym}
 use mathlib.Core.Bool.{true, false}

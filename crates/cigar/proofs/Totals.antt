@@ -1,4 +1,4 @@
--- What the operations take altogether: at a place that a loop has come to, in either order, and at most 268,435,455 for each word of 32 bits.
+-- The total that the operations take: from a loop's index on, in either order, and at most 268,435,455 for each word of 32 bits.
 -- Assumes nothing.
 use mathlib.Core.Path.{_≡_, refl}
 use mathlib.Core.Bool.{Bool, true, false, cond}

@@ -1,5 +1,5 @@
--- Where an alignment puts a read's bases: SAM v1's table of CIGAR operations, the walk forward from the alignment's start, the walk backward
--- from its end, and the public call's outcome.
+-- The reference places of a read's bases in an alignment: SAM v1's table of CIGAR operations, the walk forward from the alignment's start, the walk
+-- backward from its end, and the outcome of the public call.
 -- Assumes nothing.
 use Prim.Native.Nat.{ℕ, zero, suc, _+_, _-_, _/_, _%_}
 use mathlib.Core.Bool.{Bool, true, false, cond, _&&_}
@@ -10,7 +10,7 @@ use lib.Dec.{leb}
 use Rattle.lent.specs.Lists.{every, among}
 use Rattle.lent.specs.Outcome.{Outcome, done, need, andThen}
 
--- ---- one operation: a BAM word is length times 16 plus kind, the kinds 0 to 8 being M I D N S H P = X
+-- ---- one operation: a BAM word is length times 16 plus kind; the kinds 0 to 8 are M I D N S H P = X
 
 abbrev pub lengthOf : ℕ → ℕ
 lengthOf word = word / 16
@@ -36,7 +36,7 @@ basesTaken word = cond (takesBases (kindOf word)) (lengthOf word) 0
 abbrev pub placesTaken : ℕ → ℕ
 placesTaken word = cond (takesPlaces (kindOf word)) (lengthOf word) 0
 
--- the same of all operations
+-- the sum over all operations
 abbrev pub total : (ℕ → ℕ) → List ℕ → ℕ
 total taken [] = 0
 total taken (w ∷ ws) = taken w + total taken ws
@@ -47,12 +47,12 @@ queryLength words = total basesTaken words
 abbrev pub referenceSpan : List ℕ → ℕ
 referenceSpan words = total placesTaken words
 
--- ---- the walk: each base's place, or -1 where the base has none
+-- ---- the walk: each base's place, or -1 if the base has none
 
 abbrev pub missing : ℤ
 missing = negsuc 0
 
--- n places one after the other: upward from p, and downward from the one before e
+-- n consecutive places: upward from p, and downward from e - 1
 abbrev pub upFrom : ℕ → ℕ → List ℤ
 upFrom p zero = []
 upFrom p (suc n) = pos p ∷ upFrom (suc p) n
@@ -61,21 +61,21 @@ abbrev pub downFrom : ℕ → ℕ → List ℤ
 downFrom e zero = []
 downFrom e (suc n) = pos (e - 1) ∷ downFrom (e - 1) n
 
--- the bases of one operation, given the places that it would have
+-- the places of one operation's bases: the given ones, or all missing if the operation takes no places of the reference
 abbrev pub placed : ℕ → List ℤ → List ℤ
 placed word places = cond (takesPlaces (kindOf word)) places (replicate (basesTaken word) missing)
 
--- from the first operation on, where p is the next place of the reference
+-- the walk from the first operation on; p is the next place of the reference
 abbrev pub forward : ℕ → List ℕ → List ℤ
 forward p [] = []
 forward p (w ∷ ws) = placed w (upFrom p (basesTaken w)) ++ forward (p + placesTaken w) ws
 
--- from the last operation back, the operations being given in that order, where e is the place behind what is left of the alignment
+-- the walk from the last operation back, with the operations given in that order; e is the place after the rest of the alignment
 abbrev pub backward : ℕ → List ℕ → List ℤ
 backward e [] = []
 backward e (w ∷ ws) = placed w (downFrom e (basesTaken w)) ++ backward (e - placesTaken w) ws
 
--- a forward read from the alignment's start, a reverse read from its end
+-- a forward read is walked from the alignment's start, a reverse read from its end
 abbrev pub readPlaces : Bool → List ℕ → ℕ → List ℤ
 readPlaces false words start = forward start words
 readPlaces true words start = backward (start + referenceSpan words) (reverse words)
@@ -91,14 +91,14 @@ abbrev pub startOf : ℤ → ℕ
 startOf (pos n) = n
 startOf (negsuc n) = 0
 
--- the check, apart from the walk: 13 for an unknown kind at any word or for the start, then 1; done with how many bases the read has
+-- the check, without the walk: 13 for an unknown kind in any word or for the start, then 1; done with the read's number of bases
 abbrev pub checked : List ℕ → ℤ → Outcome ℕ
 checked words start =
     need (every isKnown words && isStart start) 13
     (need (leb (length words) 65535 && leb (queryLength words) 16000) 1
     (done (queryLength words)))
 
--- last 12, where the row lent for the places is too short
+-- last 12, if the row lent for the places is too short
 abbrev pub queryPlaces : List ℕ → ℤ → Bool → ℕ → Outcome (List ℤ)
 queryPlaces words start reversed room =
     andThen (checked words start) (λ bases. need (leb bases room) 12 (done (readPlaces reversed words (startOf start))))

@@ -1,5 +1,5 @@
-// An alignment's operations: what each kind takes of the read and of the reference, their sums, and the check of an alignment. A support crate: a
-// function here may ask something of its caller (`requires`); the public calls stand in `alignment`.
+// The operations of an alignment: how much of the read and of the reference each kind takes, their sums, and the check of an alignment. A support
+// crate: its functions may have a `requires`; the public calls are in `alignment`.
 ghost use mathlib.Core.Path.{_≡_};
 ghost use mathlib.Core.Bool.{true};
 ghost use Prim.Native.Nat.{_<_, _^_};
@@ -71,7 +71,7 @@ fn all_known(cigar: &[u32]) -> bool
     true
 }
 
-// The sums can pass what 32 bits hold before they are compared with anything.
+// The sums are in 64 bits: they can exceed 32 bits before they are compared with a limit.
 fn query_length(cigar: &[u32]) -> u64
     requires { ⌜ queryLength (now cigar) < 2 ^ 64 ⌝ }
     ensures { λ r. ⌜ r ≡ queryLength (now (cigar .entry)) ⌝ }
@@ -98,9 +98,9 @@ pub fn reference_span(cigar: &[u32]) -> u64
     sum
 }
 
-// ---- the start: places are u64 inside, and i64 only where they come in and go out
+// ---- the start: places are u64 inside, and i64 only as input and output
 
-// A start is neither negative nor too large.
+// Whether the start is neither negative nor too large.
 fn is_start(start: i64) -> bool
     ensures { λ r. ⌜ r ≡ isStart start ⌝ }
 {
@@ -119,7 +119,7 @@ pub fn start_of(start: i64) -> u64
 
 // ---- the check
 
-// The check of an alignment, apart from its walk: 13, then 1, or how many bases the read has.
+// The check of an alignment, without its walk: 13, then 1, or done with the read's number of bases.
 pub fn check(cigar: &[u32], start: i64) -> Written
     ensures { λ r. ⌜ says r ≡ checked (now (cigar .entry)) start ⌝ }
 {

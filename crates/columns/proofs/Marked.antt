@@ -1,4 +1,4 @@
--- The marks of a column, made over none: those of the positions that the reference row has are all that there are.
+-- Marking a column without marks: marking the positions that the reference row has gives the whole column of the definition.
 -- Assumes nothing.
 use mathlib.Core.Path.{_≡_, refl, ap, _∙_}
 use Prim.Native.Nat.{ℕ, _≤_, _<_, min}
@@ -19,7 +19,7 @@ use Rattle.pattern.specs.declared.ConversionPattern.{ConversionPattern}
 use Rattle.pattern.specs.declared.ConversionPattern.the-variants.{CToT, GToA}
 use Rattle.columns.specs.Columns.{yesByte, informativeAt, informativeColumn}
 
--- the pattern's base stands in upper case
+-- the pattern's base is an upper-case letter
 informative-there : (p : ConversionPattern) (row : List ℕ) (i : ℕ) → sameInAnyCase (getD row i 0) (basesOf p .reference) ≡ informativeAt p row i
 unfolding sameInAnyCase informativeAt upper
 informative-there CToT row i = refl

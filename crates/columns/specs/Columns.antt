@@ -13,7 +13,7 @@ use Rattle.pattern.specs.declared.ConversionPattern.{ConversionPattern}
 
 -- ---- marks
 
--- any byte but 0 says yes, and yes is written as 1
+-- any byte except 0 means yes, and yes is written as 1
 abbrev pub isYes : ℕ → Bool
 isYes b = not (eqb b 0)
 
@@ -21,7 +21,7 @@ abbrev pub yesByte : Bool → ℕ
 yesByte true = 1
 yesByte false = 0
 
--- the reference base is the pattern's, in any case; beyond the reference row there is none
+-- the reference base is the pattern's, in upper or lower case; no position beyond the reference row is informative
 unfoldable pub informativeAt : ConversionPattern → List ℕ → ℕ → Bool
 informativeAt p row i = eqb (upper (getD row i 0)) (basesOf p .reference)
 
@@ -29,9 +29,9 @@ informativeAt p row i = eqb (upper (getD row i 0)) (basesOf p .reference)
 abbrev pub informativeColumn : ConversionPattern → List ℕ → ℕ → List ℕ
 informativeColumn p row n = tabulate n (λ i. yesByte (informativeAt p row i))
 
--- ---- what is done with columns
+-- ---- work on columns
 
--- counts stay where the position is informative, and are 0 elsewhere
+-- counts stay if the position is informative, and are 0 otherwise
 abbrev pub gatedCounts : List ℕ → List ℕ → List ℕ
 gatedCounts informative counts = zipWith (λ y n. cond (isYes y) n 0) informative counts
 
@@ -39,11 +39,11 @@ gatedCounts informative counts = zipWith (λ y n. cond (isYes y) n 0) informativ
 abbrev pub asYes : List ℕ → List ℕ
 asYes informative = map (λ y. yesByte (isYes y)) informative
 
--- `cu` and `ct` are signed 16-bit numbers
+-- counts as the tags `cu` and `ct` hold them, which are signed 16-bit numbers
 abbrev pub asTagCounts : List ℕ → List ℤ
 asTagCounts counts = map (λ n. pos (min 32767 n)) counts
 
--- the unconverted base over the converted one, in any case, where the position is informative
+-- at informative positions the unconverted base replaces the converted one, in upper or lower case
 abbrev pub restored : ConversionPattern → List ℕ → List ℕ → List ℕ
 restored p informative seq =
     zipWith (λ y b. cond (isYes y && sameInAnyCase b (basesOf p .converted)) (basesOf p .unconverted) b) informative seq

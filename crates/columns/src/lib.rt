@@ -1,5 +1,5 @@
-// Columns of evidence that are there: the work over them, entry by entry, from the left, and with nothing to refuse. A support crate: a function
-// here may ask something of its caller (`requires`); the public calls stand in `annotation`.
+// Works through columns of evidence, entry by entry from the left. Nothing is refused here. A support crate: its functions may have a `requires`; the
+// public calls are in `annotation`.
 //
 // marks: the column that says which positions are informative.
 ghost use mathlib.Core.Path.{_≡_};
@@ -37,7 +37,7 @@ fn tag_count(count: u32) -> i16
     count as i16
 }
 
-// One column's counts as a tag holds them, to the front of a row.
+// Writes one column's counts, as a tag holds them, to the front of a row.
 pub fn put_tag_counts(column: &[u32], counts: &mut [i16])
     requires { ⌜ length (now column) ≤ length (now counts) ⌝ }
     ensures { λ _. ⌜ now (counts .exit) ≡ over (asTagCounts (now (column .entry))) (now (counts .entry)) ⌝ }
@@ -49,7 +49,7 @@ pub fn put_tag_counts(column: &[u32], counts: &mut [i16])
     }
 }
 
-// The count where the mark says yes.
+// The count if the mark says yes, else 0.
 fn gated_count(mark: u8, count: u32) -> u32
     ensures { λ r. ⌜ r ≡ cond (isYes mark) count 0 ⌝ }
 {
@@ -59,7 +59,7 @@ fn gated_count(mark: u8, count: u32) -> u32
     count
 }
 
-// Zeroes a column's counts where the position is not informative.
+// Zeroes a column's counts at positions that are not informative.
 pub fn gate(informative: &[u8], counts: &mut [u32])
     requires { ⌜ length (now informative) ≡ length (now counts) ⌝ }
     ensures { λ _. ⌜ now (counts .exit) ≡ gatedCounts (now (informative .entry)) (now (counts .entry)) ⌝ }
@@ -71,7 +71,7 @@ pub fn gate(informative: &[u8], counts: &mut [u32])
     }
 }
 
-// The unconverted base for the converted one, in any case, where the position is informative.
+// The unconverted base if the position is informative and the base is the converted one, in upper or lower case; else the base unchanged.
 fn restored_base(base: u8, pattern: ConversionPattern, informative: u8) -> u8
     ensures { λ r. ⌜ r ≡ cond (isYes informative && sameInAnyCase base (basesOf pattern .converted)) (basesOf pattern .unconverted) base ⌝ }
 {
@@ -85,7 +85,7 @@ fn restored_base(base: u8, pattern: ConversionPattern, informative: u8) -> u8
     base
 }
 
-// Writes the unconverted base over the converted one where the position is informative.
+// Writes the unconverted base over the converted one at informative positions.
 pub fn restore(bases: &mut [u8], pattern: ConversionPattern, informative: &[u8])
     requires { ⌜ length (now informative) ≡ length (now bases) ⌝ }
     ensures { λ _. ⌜ now (bases .exit) ≡ restored pattern (now (informative .entry)) (now (bases .entry)) ⌝ }
@@ -97,7 +97,7 @@ pub fn restore(bases: &mut [u8], pattern: ConversionPattern, informative: &[u8])
     }
 }
 
-// A column's counts to the front of a row.
+// Copies a column's counts to the front of a row.
 pub fn copy_counts(counts: &[u32], out: &mut [u32])
     requires { ⌜ length (now counts) ≤ length (now out) ⌝ }
     ensures { λ _. ⌜ now (out .exit) ≡ over (now (counts .entry)) (now (out .entry)) ⌝ }

@@ -31,7 +31,7 @@ fn clear(informative: &mut [u8])
     }
 }
 
-// The mark of a position with this reference base: whether it is the pattern's.
+// The mark of a position with this reference base: whether it is the pattern's reference base.
 fn mark_of(base: u8, pattern: ConversionPattern) -> u8
     ensures { λ r. ⌜ r ≡ yesByte (sameInAnyCase base (basesOf pattern .reference)) ⌝ }
 {
@@ -39,7 +39,7 @@ fn mark_of(base: u8, pattern: ConversionPattern) -> u8
     yes_byte(pattern::eq_ignore_ascii_case(base, bases.reference))
 }
 
-// Marks each position of a column: those that the reference row has, in a loop that does nothing else.
+// Marks each position of a column. It clears all, then marks those that the reference row has, in a loop that does nothing else.
 pub fn mark(ref_bases: &[u8], pattern: ConversionPattern, informative: &mut [u8])
     ensures { λ _. ⌜ now (informative .exit) ≡ informativeColumn pattern (now («ref_bases» .entry)) (length (now (informative .entry))) ⌝ }
 {
@@ -52,7 +52,7 @@ pub fn mark(ref_bases: &[u8], pattern: ConversionPattern, informative: &mut [u8]
     }
 }
 
-// The marks of a column, yes as 1, to the front of a row.
+// Copies the marks of a column, yes as 1, to the front of a row.
 pub fn copy_marks(informative: &[u8], out: &mut [u8])
     requires { ⌜ length (now informative) ≤ length (now out) ⌝ }
     ensures { λ _. ⌜ now (out .exit) ≡ over (asYes (now (informative .entry))) (now (out .entry)) ⌝ }

@@ -1,4 +1,4 @@
--- Counting read by read over the columns comes to the definition: at each position, how many of the reads that count there show the base.
+-- Counting read by read over the columns gives the definition: at each position, the number of reads that count there and show the base.
 -- Assumes nothing.
 use mathlib.Core.Path.{_≡_, refl, ap, _∙_}
 use Prim.Native.Nat.{ℕ, _+_, _≤_, _<_, min}
@@ -72,7 +72,7 @@ module _ (base : ℕ) (all? : Bool) (inf : List ℕ) where
       (λ (j : ℕ) (l : j < n). ap (countAfter base all? inf r j) (getD-tabulate n j g 0 l))) in
       rw one (add-reads-tabulate rs n (λ i. countAfter base all? inf r i (g i)))
 
--- counted from nothing over the column that says what is informative
+-- counting all reads, from zeros and over the informative column, gives the definition's column
 pub counted-column : (base : ℕ) (p : ConversionPattern) (all? : Bool) (row : List ℕ) (rs : List Read) (n : ℕ)
     → addReads base all? (informativeColumn p row n) rs (tabulate n (λ i. 0)) ≡ countColumn base p all? row rs n
 counted-column base p all? row rs n =

@@ -1,4 +1,4 @@
--- Joined reads from a place on: one read more, none left.
+-- Reads in joined rows, from one of them on: one more read, and the end, when no read is left.
 -- Assumes nothing.
 use mathlib.Core.Path.{_≡_}
 use Prim.Native.Nat.{ℕ, _+_, _-_, _≤_, _<_}

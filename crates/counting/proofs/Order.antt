@@ -1,4 +1,4 @@
--- The order of the reads does not matter, and no position has more counts than reads that count there.
+-- The order of the reads does not matter. No position has more counts than reads that count there.
 -- Assumes nothing.
 use mathlib.Core.Path.{_≡_, refl, ap, _∙_}
 use Prim.Native.Nat.{ℕ, _+_, _≤_, _<_}
@@ -42,7 +42,7 @@ module _ (base : ℕ) (all? inf? : Bool) (i : ℕ) where
       ))
   shown-perm (List·Permᴰ·trans d d′) = shown-perm d ∙ shown-perm d′
 
--- the columns are the same for the reads in any order; what is informative does not look at the reads
+-- the columns of counts are the same for the reads in any order; the informative column does not depend on the reads
 pub order-does-not-matter : (base : ℕ) (p : ConversionPattern) (all? : Bool) (row : List ℕ) (reads reads′ : List Read) (n : ℕ) → Perm reads reads′
     → countColumn base p all? row reads n ≡ countColumn base p all? row reads′ n
 order-does-not-matter base p all? row reads reads′ n perm =
@@ -55,7 +55,7 @@ order-does-not-matter base p all? row reads reads′ n perm =
         (howMany base (basesAt all? (informativeAt p row i) i reads′)))
         (shown-perm base all? (informativeAt p row i) i)
 
--- there is such an order for every list of reads: from the last to the first
+-- in particular, the reads from the last to the first give the same columns
 pub reversed-reads-count-alike : (base : ℕ) (p : ConversionPattern) (all? : Bool) (row : List ℕ) (reads : List Read) (n : ℕ)
     → countColumn base p all? row (reverse reads) n ≡ countColumn base p all? row reads n
 reversed-reads-count-alike base p all? row reads n = order-does-not-matter base p all? row (reverse reads) reads n (reverse-perm reads)
@@ -69,7 +69,7 @@ two-bases a b (x ∷ xs) ne =
     (λ e. rw (e, ne-eqb b x (λ f. let g : a ≡ x = eqb-true a x e in ne (omega arith))) (omega (arith, two-bases a b xs ne)))
     (λ e. rw e (by-test (eqb b x) (λ f. rw f (omega (arith, two-bases a b xs ne))) (λ f. rw f (omega (arith, two-bases a b xs ne)))))
 
--- no read is counted twice: unconverted and converted are together at most as many as the reads that count at the position
+-- no read is counted twice: unconverted plus converted is at most the number of reads that count at the position
 pub counts-add-up : (p : ConversionPattern) (all? inf? : Bool) (i : ℕ) (reads : List Read)
     → howMany (basesOf p .unconverted) (basesAt all? inf? i reads) + howMany (basesOf p .converted) (basesAt all? inf? i reads)
     ≤ length (filter (countsAt all? inf? i) reads)

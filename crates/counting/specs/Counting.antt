@@ -1,4 +1,4 @@
--- The counting as the code goes, read by read over the columns. What it comes to is Reads.antt's: proofs/Counted.antt.
+-- The counting as the code does it, read by read over the columns. proofs/Counted.antt proves that the result is the one of Reads.antt.
 -- Assumes nothing.
 use Prim.Native.Nat.{ℕ}
 use mathlib.Core.Bool.{Bool, cond, _&&_, _||_}
@@ -13,22 +13,22 @@ use Rattle.columns.specs.Columns.{isYes}
 use Rattle.counting.specs.Reads.{Read, countsAt}
 use Rattle.evidence.specs.declared.MethylationEvidence.{MethylationEvidence}
 
--- a base that a read shows at a position counts where all positions do, or where the position is informative and the base aligned
+-- a base that a read shows at a position counts if all positions count, or if the position is informative and the base is aligned
 abbrev pub countsThere : Bool → ℕ → ℕ → Bool
 countsThere all? informative aligned = all? || (isYes informative && isYes aligned)
 
--- the evidence of a position with the base counted that a read shows there, where it counts
+-- the evidence of a position after one read's base there: with the base counted, if it counts
 abbrev pub countedThere : Bool → ℕ → ℕ → ℕ → ℕ → ℕ → ConversionPattern → MethylationEvidence
 countedThere all? informative unconverted converted base aligned p =
     let e : MethylationEvidence = record { informative = isYes informative; unconverted = unconverted; converted = converted } in
     cond (countsThere all? informative aligned) (counted e base p) e
 
--- the count of a base at position i after one read more
+-- the count of a base at position i after one more read
 unfoldable pub countAfter : ℕ → Bool → List ℕ → Read → ℕ → ℕ → ℕ
 countAfter base all? informative r i n =
     countedIf (countsAt all? (isYes (getD informative i 0)) i r && eqb (upper (getD (r .bases) i 0)) base) n
 
--- a column of counts after one read more, and after all of them
+-- a column of counts after one more read, and after all reads
 abbrev pub addRead : ℕ → Bool → List ℕ → Read → List ℕ → List ℕ
 addRead base all? informative r counts = tabulate (length counts) (λ i. countAfter base all? informative r i (getD counts i 0))
 

@@ -1,4 +1,4 @@
--- Evidence counted over the reads: which of them count at a position, which bases they show there, and how many of a kind.
+-- Evidence counted over the reads: which reads count at a position, which bases they show there, and how many of each kind.
 -- Assumes nothing.
 use Prim.Native.Nat.{ℕ}
 use mathlib.Core.Bool.{Bool, _&&_, _||_}
@@ -12,25 +12,25 @@ use Rattle.pattern.specs.declared.ConversionPattern.{ConversionPattern}
 use Rattle.evidence.specs.Position.{capped}
 use Rattle.columns.specs.Columns.{isYes, informativeAt}
 
--- a source read: its bases, and for each a byte that says whether it is aligned
+-- a source read: its bases, and for each base a byte that says whether it is aligned
 pub record Read : Type 0 where
   pub bases : List ℕ
   pub aligned : List ℕ
 
--- the reads of joined rows: each takes as many as its length says from where the last one ended
+-- the reads of joined rows: each read takes as many entries as its length says, beginning where the last read ended
 unfoldable pub readsOf : List ℕ → List ℕ → List ℕ → List Read
 readsOf [] bases aligned = []
 readsOf (n ∷ ns) bases aligned = record { bases = take n bases; aligned = take n aligned } ∷ readsOf ns (drop n bases) (drop n aligned)
 
--- a read counts at a position if it reaches it and, unless all positions are counted, the position is informative and the read aligned there
+-- a read counts at a position if it reaches it and, unless all positions are counted, the position is informative and the read is aligned there
 abbrev pub countsAt : Bool → Bool → ℕ → Read → Bool
 countsAt all? informative? i r = ltb i (length (r .bases)) && (all? || (informative? && isYes (getD (r .aligned) i 0)))
 
--- what the reads that count at a position show there, in upper case
+-- the bases that the reads counted at a position show there, in upper case
 unfoldable pub basesAt : Bool → Bool → ℕ → List Read → List ℕ
 basesAt all? informative? i reads = map (λ r. upper (getD (r .bases) i 0)) (filter (countsAt all? informative? i) reads)
 
--- how many of the bases are this one
+-- how many of the bases equal `base`
 unfoldable pub howMany : ℕ → List ℕ → ℕ
 howMany base bases = length (filter (eqb base) bases)
 

@@ -1,5 +1,5 @@
-// Fills the columns of evidence from reads: marks, zeroes, then counts read by read, so that the bases of all reads are passed over once and in
-// order. A support crate: a function here may ask something of its caller (`requires`); the public calls stand in `annotation`.
+// Fills the columns of evidence from reads: sets the marks, zeroes the counts, then counts read by read. So it passes over the bases of all reads
+// once and in order. A support crate: its functions may have a `requires`; the public calls are in `annotation`.
 ghost use mathlib.Core.Path.{_≡_};
 ghost use Prim.Native.Nat.{_<_};
 ghost use lib.ListN.{length, getD, set};
@@ -14,7 +14,7 @@ use evidence::MethylationEvidence;
 use pattern::ConversionPattern;
 use refusals::smaller;
 
-// Whether a base counts: where all positions do, or where the position is informative and the base aligned.
+// Whether a base counts: if all positions count, or if the position is informative and the base is aligned.
 fn counts_there(count_all_positions: bool, informative: u8, aligned: u8) -> bool
     ensures { λ r. ⌜ r ≡ countsThere «count_all_positions» informative aligned ⌝ }
 {
@@ -27,7 +27,7 @@ fn counts_there(count_all_positions: bool, informative: u8, aligned: u8) -> bool
     aligned != 0
 }
 
-// Counts the base that a read shows at position i. Where it does not count, as at most positions, no column is touched.
+// Counts the base that a read shows at position i. If it does not count, as at most positions, no column is touched.
 fn count_base(
     base: u8,
     aligned: u8,
@@ -93,7 +93,7 @@ fn count_read(
     }
 }
 
-// Counts all reads over the columns, each where the last one ended in the joined rows.
+// Counts all reads over the columns. In the joined rows each read begins where the last one ended.
 fn count_reads(
     read_lengths: &[u32],
     read_bases: &[u8],
@@ -130,7 +130,7 @@ fn count_reads(
     }
 }
 
-// The three columns of a consensus, which has as many positions as each of them has entries.
+// Fills the three columns of a consensus. The consensus has as many positions as each column has entries.
 pub fn fill(
     read_lengths: &[u32],
     read_bases: &[u8],

@@ -1,6 +1,5 @@
-// A session's cutting step, on lengths that are in order. The tag is edited first: what can be refused is refused before a byte is written, and a refusal
-// leaves the rows as they were. Then SEQ becomes what it is after the step. A support crate: a function here may ask something of its caller (`requires`);
-// the public calls stand above.
+// A session's cutting step, on lengths that are in order. The tag is edited first: every refusal comes before a byte is written, and leaves the rows
+// unchanged. Then the new SEQ is written. A support crate: its functions may have a `requires`; the public calls are in `session`.
 ghost use mathlib.Core.Path.{_≡_};
 ghost use Prim.Native.Nat.{_+_, _≤_};
 ghost use Rattle.samtags.specs.Edits.{cutTo, edited};
@@ -11,7 +10,7 @@ use lent::Tagged;
 use stepping::Lengths;
 use stepping::Stepped;
 
-// SEQ becomes n of its bases, from `front` on.
+// SEQ becomes n of its bases, from place `front` on.
 fn cut_to(
     seq: &mut [u8],
     mm: &mut [u8],
@@ -47,7 +46,7 @@ fn cut_to(
     Stepped::Done(stepping::lengths_now(n, end, kept, has_ml, lengths))
 }
 
-// So many bases go off the front and off the back: 21 where none do, 11 where there are not so many. The sum may be more than a u32 holds.
+// Cuts `front` bases off the front and `back` bases off the back: 21 if both are 0, 11 if SEQ has fewer bases. The sum may exceed a u32.
 pub fn cut_ends(
     seq: &mut [u8],
     mm: &mut [u8],

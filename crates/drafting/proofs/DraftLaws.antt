@@ -1,4 +1,4 @@
--- What one entry, one group and one tag more do to the rows that an edited tag is written into.
+-- Laws of the rows that an edited tag is written into: one more entry, one more group, and the whole tag.
 -- Assumes nothing.
 use mathlib.Core.Path.{_≡_, refl, sym, ap, _∙_}
 use Prim.Native.Nat.{ℕ, _+_, _≤_, _<_, min}
@@ -152,7 +152,7 @@ pub put-refused : (e : Edit) (w : Draft) (o : Outcome (List Group)) (r : Refusal
 put-refused e w (refused q) r h = let s : q ≡ r = cc in rw s
 put-refused e w (done gs) r h = let z : _≡_ {A = ℕ} 0 1 = cc in absurd (omega arith)
 
--- what is stored into the parts that begin where the rows' written parts end, or into empty parts where the rows end before, stands in the rows
+-- what is stored into the parts that begin where the rows' written parts end, or into empty parts if the rows end before, is in the rows
 pub in-parts : (t : List ℕ) (n : ℕ) (v : List ℕ) (m : ℕ) (room ml-room : ℕ) → room ≡ min n (length t) → ml-room ≡ min m (length v)
     → (x y t′ : List ℕ) (n′ : ℕ) (v′ : List ℕ) (m′ : ℕ) → more (draft (drop room t) 0 (drop ml-room v) 0) x y ≡ draft t′ n′ v′ m′
     → more (draft t n v m) x y ≡ draft (take room t ++ t′) (n + n′) (take ml-room v ++ v′) (m + m′)

@@ -1,5 +1,5 @@
--- What the walk over a tag answers and leaves in the rows, step by step, and that what is written stays behind what is read: these are the
--- contracts of support functions, and no one needs to believe them.
+-- The answer of the walk over a tag and the rows after it, step by step, and that writing never overtakes reading. These are contracts of support
+-- functions; no promise rests on them.
 -- Assumes nothing.
 use Prim.Native.Nat.{ℕ, _+_, _≤_}
 use mathlib.Core.Path.{_≡_}
@@ -20,15 +20,15 @@ use Rattle.drafting.specs.declared.Cursor.{Cursor}
 use Rattle.drafting.specs.declared.Edited.{Edited}
 use Rattle.drafting.specs.declared.Edited.the-variants.{To, Refused}
 
--- ---- what is put
+-- ---- what is written
 
--- the spots of a group, changed, where `gap` bare spots wait before them; what is left of ML is passed on
+-- the changed spots of a group, before which `gap` bare spots wait; the rest of ML is passed on
 abbrev pub spotsPut : (ℕ → Bool) → (ℕ → Bool) → Draft → ℕ → List Spot × List ℕ → Draft × List ℕ
 spotsPut held dropped w gap r =
     let ss = change held dropped (r .0) in
     (more w (entriesText (skipsFrom gap ss)) (concatMap valuesOf ss), r .1)
 
--- a group, changed
+-- a changed group
 abbrev pub groupPut : Edit → Draft → Group × List ℕ → Draft × List ℕ
 groupPut e w r = (more w (groupText (changed e (r .0))) (concatMap valuesOf (changed e (r .0) .spots)), r .1)
 
@@ -36,23 +36,23 @@ groupPut e w r = (more w (groupText (changed e (r .0))) (concatMap valuesOf (cha
 abbrev pub tagPut : Draft → Tag → Draft
 tagPut w t = more w (t .text) (t .ml)
 
--- ---- where a walk stands
+-- ---- the state of a walk
 
--- the pen at the ends of what is written, where no base was passed yet
+-- the pen at the ends of the written parts, with no base passed yet
 abbrev pub penOf : Cursor → Pen
 penOf c = record { end = c .end; kept = c .kept; gap = 0 }
 
--- a cursor that has read so far
+-- the cursor of a walk that has read up to byte `at` and value `used`
 abbrev pub cursorAt : ℕ → ℕ → Pen → Cursor
 cursorAt at used pen = record { at = at; used = used; end = pen .end; kept = pen .kept }
 
--- ---- what is answered
+-- ---- the answers
 
 abbrev pub editedRefusal : Edited → Refusal
 editedRefusal (To c) = refusal 0
 editedRefusal (Refused r) = r
 
--- o is what the answer says of the entries from the separator at c on; t and v are the rows before, t′ and v′ after
+-- the answer agrees with o, the outcome of the entries from the separator at c on; t and v are the rows before, t′ and v′ after
 abbrev pub EntriesEdited : (ℕ → Bool) → (ℕ → Bool) → List ℕ → List ℕ → Cursor → Outcome (List Spot × List ℕ)
     → List ℕ → List ℕ → Edited → List ℕ → List ℕ → Type 0
 EntriesEdited held dropped text ml c o t v (Refused r) t′ v′ = o ≡ refused r
@@ -61,18 +61,18 @@ EntriesEdited held dropped text ml c o t v (To d) t′ v′ =
     × (c .at + d .end ≤ c .end + d .at) × (c .used + d .kept ≤ c .kept + d .used)
     × (onDone (spotsPut held dropped (draft t (c .end) v (c .kept)) 0) o ≡ done (draft t′ (d .end) v′ (d .kept), drop (d .used) ml))
 
--- o is what the answer says of the group at a byte of the text and a value of ML
+-- the answer agrees with o, the outcome of the group at a byte of the text and a value of ML
 abbrev pub GroupEdited : Edit → List ℕ → List ℕ → ℕ → ℕ → Outcome (Group × List ℕ) → List ℕ → List ℕ → Edited → List ℕ → List ℕ → Type 0
 GroupEdited e text ml at used o t v (Refused r) t′ v′ = o ≡ refused r
 GroupEdited e text ml at used o t v (To d) t′ v′ =
     (d .at ≡ at + length (upTo 59 (drop at text)) + 1) × (d .used ≤ length ml) × (at + d .end ≤ d .at) × (used + d .kept ≤ d .used)
     × (onDone (groupPut e (draft t 0 v 0)) o ≡ done (draft t′ (d .end) v′ (d .kept), drop (d .used) ml))
 
--- the groups that are read, changed and written
+-- the tag written from the changed groups
 abbrev pub editedGroups : Edit → Outcome (List Group) → Outcome Tag
 editedGroups e o = andThen o (λ gs. done (written (map (changed e) gs)))
 
--- o is what the answer says of all groups
+-- the answer agrees with o, the outcome of all groups
 abbrev pub TagEdited : Edit → Outcome (List Group) → List ℕ → List ℕ → Edited → List ℕ → List ℕ → Type 0
 TagEdited e o t v (Refused r) t′ v′ = o ≡ refused r
 TagEdited e o t v (To d) t′ v′ = onDone (tagPut (draft t 0 v 0)) (editedGroups e o) ≡ done (draft t′ (d .end) v′ (d .kept))

@@ -1,6 +1,6 @@
-// One walk over a tag from the left, which answers, and writes the tag as the edit leaves it. The rows are written as far as they reach, so that the
-// same walk over empty rows measures, and over the caller's own, once the tag is known to fit, writes. What is written never passes what is still to be
-// read. A support crate: a function here may ask something of its caller (`requires`).
+// One walk over a tag from the left, which answers, and writes the tag as the edit leaves it. The rows are written as far as they reach. So the same
+// walk measures over empty rows, and writes into the caller's rows once the tag is known to fit. Writing never overtakes reading. A support crate:
+// its functions may have a `requires`.
 ghost use mathlib.Core.Path.{_≡_};
 ghost use Prim.Native.Nat.{_+_, _≤_, _<_, min};
 ghost use lib.ListN.{length, drop};
@@ -20,7 +20,7 @@ use lent::Refusal;
 use places::Place;
 use strides::Window;
 
-// Where a walk stands: the byte of the text and the value of ML that come next, and where what is written of each row ends.
+// The state of a walk: the next byte of the text, the next value of ML, and the end of the written part of each row.
 pub struct Cursor {
     pub at: usize,
     pub used: usize,
@@ -29,7 +29,7 @@ pub struct Cursor {
 }
 
 impl Cursor {
-    // The pen at the ends of what is written, where no base was passed yet.
+    // The pen at the ends of the written parts, with no base passed yet.
     pub fn pen(self) -> Pen
         ensures { λ r. ⌜ r ≡ penOf self ⌝ }
     {
@@ -40,7 +40,7 @@ impl Cursor {
         }
     }
 
-    // Where a walk stops that has read so far.
+    // The cursor of a walk that has read up to byte `at` and value `used`.
     pub fn behind(at: usize, used: usize, pen: Pen) -> Cursor
         ensures { λ r. ⌜ r ≡ cursorAt at used pen ⌝ }
     {
@@ -59,7 +59,7 @@ pub enum Edited {
 }
 
 impl Edited {
-    // The refusal, passed on whole.
+    // The refusal, unchanged. `To` gives the number 0.
     pub fn refusal(self) -> Refusal
         ensures { λ r. ⌜ r ≡ editedRefusal self ⌝ }
     {
@@ -70,7 +70,7 @@ impl Edited {
     }
 }
 
-// A group's entries, from the separator at the cursor on, up to the ';' that closes the group.
+// Edits a group's entries, from the separator at the cursor on, up to the ';' that closes the group.
 fn edit_entries(
     seq: &[u8],
     after: &[u8],
@@ -116,7 +116,7 @@ fn edit_entries(
     Edited::To(Cursor::behind(at, used, pen))
 }
 
-// The group that begins at a byte of the text, up to and with its ';', into the rows from their starts on.
+// Edits the group that begins at a byte of the text, up to and including its ';', into the rows from their starts on.
 fn edit_group(
     seq: &[u8],
     after: &[u8],
@@ -165,7 +165,7 @@ fn edit_group(
     })
 }
 
-// The lesser of the two.
+// The smaller of the two.
 fn at_most(n: usize, most: usize) -> usize
     ensures { λ r. ⌜ r ≡ min n most ⌝ }
 {
@@ -175,7 +175,7 @@ fn at_most(n: usize, most: usize) -> usize
     most
 }
 
-// All groups of a text that ends in ';', each into the room that begins where the last one ended; after the last no value of ML may be left over.
+// Edits all groups of a text that ends in ';'. Each is written where the last one ended. After the last group no value of ML may be left over.
 pub fn edit_groups(
     seq: &[u8],
     after: &[u8],
@@ -193,7 +193,7 @@ pub fn edit_groups(
         (readGroups «has_ml» (isMarked (now (marks .entry))) (now (seq .entry)) (closedBy semicolon (now (text .entry))) (now (ml .entry)))
         (now (out .entry)) (now («ml_out» .entry)) r (now (out .exit)) (now («ml_out» .exit)) ⌝ }
 {
-    // Looked at once, for all entries of all groups: a drop leaves SEQ as it is.
+    // SEQ and `after` are compared once, for all entries of all groups; for a drop they are the same.
     let window = windows::window_of(seq, after, lo);
     let mut c = Cursor {
         at: 0,

@@ -1,5 +1,5 @@
-// A session's dropping step, on lengths that are in order. What can be refused is refused before a byte is written, and a refusal leaves the rows as they were;
-// SEQ stays. A support crate: a function here may ask something of its caller (`requires`); the public calls stand above.
+// A session's dropping step, on lengths that are in order. Every refusal comes before a byte is written, and leaves the rows unchanged. SEQ stays. A
+// support crate: its functions may have a `requires`; the public calls are in `session`.
 ghost use mathlib.Core.Path.{_≡_};
 ghost use Prim.Native.Nat.{_≤_};
 ghost use lib.ListN.{length};
@@ -11,7 +11,7 @@ use lent::Tagged;
 use stepping::Lengths;
 use stepping::Stepped;
 
-// The calls at the marked places go, and SEQ stays.
+// Drops the calls at the marked places; SEQ stays.
 pub fn drop_marked(
     seq: &[u8],
     mm: &mut [u8],
@@ -44,7 +44,7 @@ pub fn drop_marked(
     Stepped::Done(stepping::lengths_now(n, end, kept, has_ml, lengths))
 }
 
-// The drop of a session whose lengths are in order, with a row to mark the places in: it comes without a mark and is as long as SEQ or longer.
+// The dropping step of a session whose lengths are in order. `marks` is a row to mark the places in: it has no mark yet and is at least as long as SEQ.
 pub fn drop_with(
     seq: &[u8],
     mm: &mut [u8],

@@ -1,4 +1,4 @@
--- The checks of the first pass, in order, by what each of them found; and what is known where all of them passed.
+-- The checks of the first pass, in order: the refusal of each check that fails, and what is known when all of them pass.
 -- Assumes nothing.
 use mathlib.Core.Path.{_≡_, ap, refl}
 use Prim.Native.Nat.{ℕ}

@@ -1,4 +1,4 @@
--- Which numbers the call can answer: these, each of them, and 0 just where the rows were written. 20 is none of them.
+-- The numbers that the public call can answer: no other number, each of them for some input, and 0 exactly when the call is done. 20 is not among them.
 -- Assumes nothing.
 use mathlib.Core.Path.{_≡_, refl}
 use Prim.Native.Nat.{ℕ}

@@ -1,4 +1,4 @@
--- What the answer's parts are in terms of the strands' own tags and columns, as the code comes to them.
+-- The parts of the answer, as the code computes them from the strands' own tags and columns.
 -- Assumes nothing.
 use mathlib.Core.Path.{_∙_, _≡_, ap, refl, sym}
 use Prim.Native.Nat.{_+_, _<_, min, ℕ, _≤_}
@@ -116,7 +116,7 @@ pub record Known (two? : Bool) (bases : List ℕ) (a b : Strand) : Type 0 where
   pub first : Lengths (a .evidence) bases
   pub second : two? ≡ true → Lengths (b .evidence) bases
 
--- the answer as the code comes to it
+-- the answer as the code finds it
 abbrev pub pieces : Bool → MethylationMode → List ℕ → Strand → Strand → Duplexed
 pieces two? mode bases a b =
     let seq = restoredSeq two? bases a b in

@@ -1,4 +1,4 @@
--- What the cases of the answer mean: the scope's number, and how long each part of the answer is.
+-- The cases of the answer as outcomes: done with the length of each part, or the refusal.
 -- Assumes nothing.
 use Rattle.lent.specs.Outcome.{Outcome, refused, done}
 use Rattle.duplex.specs.declared.Lengths.{Lengths}

@@ -1,5 +1,5 @@
--- What the public call promises, as one proposition: its answer and every entry of the rows lent to it, for all inputs. The call's `ensures` cites it, and
--- every theorem about the code takes it.
+-- The promise of the public call, as one proposition: its answer and every entry of the lent rows, for all inputs. The call's `ensures` cites it, and
+-- every theorem about the call uses it.
 -- Assumes nothing.
 use mathlib.Core.Path.{_≡_}
 use Prim.Native.Nat.{ℕ}
@@ -15,7 +15,7 @@ use Rattle.duplex.specs.Duplex.{Duplexed, duplexTags, lengthsOf, rows}
 use Rattle.duplex.specs.declared.Duplex.{Duplex}
 use Rattle.duplex.specs.declared.Lengths.{Lengths}
 
--- the eleven rows that are lent
+-- the eleven lent rows
 pub record Rows : Type 0 where
   pub seq : List ℕ
   pub mm : List ℕ
@@ -29,7 +29,7 @@ pub record Rows : Type 0 where
   pub secondUnconverted : List ℤ
   pub secondConverted : List ℤ
 
--- in the order in which the call takes them
+-- the rows in the order in which the call takes them
 abbrev pub elevenRows : List ℕ → List ℕ → List ℕ → List ℤ → List ℤ → List ℕ → List ℤ → List ℤ → List ℕ → List ℤ → List ℤ → Rows
 elevenRows seq mm ml u c mm₁ u₁ c₁ mm₂ u₂ c₂ = record {
   seq = seq;
@@ -45,7 +45,7 @@ elevenRows seq mm ml u c mm₁ u₁ c₁ mm₂ u₂ c₂ = record {
   secondConverted = c₂;
 }
 
--- how long they are
+-- the lengths of the rows
 abbrev pub lengthsLent : Rows → Lengths
 lengthsLent l = rows
     (length (l .seq))
@@ -60,7 +60,7 @@ lengthsLent l = rows
     (length (l .secondUnconverted))
     (length (l .secondConverted))
 
--- `duplex_methylation_tags`, given the number of strands, chemistry, consensus, the strands and the rows: what it answers, and the rows as it leaves them
+-- `duplex_methylation_tags`: the number of strands, chemistry, consensus, the strands and the rows; the answer, and the rows after the call
 abbrev pub Duplexes : ℕ → MethylationMode → List ℕ → Strand → Strand → Rows → Duplex → Rows → Type 0
 Duplexes count mode bases a b lent r left =
     let o = duplexTags count mode bases a b (lengthsLent lent) in

@@ -31,12 +31,12 @@ pub record Duplexed : Type 0 where
   pub first : StrandTags
   pub second : StrandTags
 
--- SEQ as one strand after the other restores it
+-- SEQ restored by one strand after the other
 abbrev pub restoredBy : List Strand → List ℕ → List ℕ
 restoredBy [] seq = seq
 restoredBy (s ∷ ss) seq = restoredBy ss (restored (s .pattern) (s .evidence .informative) seq)
 
--- at each of n places the sum of the strands' counts of one kind, no more than a u32 holds, and then as a tag holds it
+-- at each of n places the sum of the strands' counts of one kind, at most the largest u32, and then as a tag holds it
 abbrev pub combined : (Evidence → List ℕ) → ℕ → List Strand → List ℤ
 combined column n strands = asTagCounts (tabulate n (λ i. capped (sum (map (λ s. getD (column (s .evidence)) i 0) strands))))
 
@@ -53,11 +53,11 @@ strandTags mode seq s = record {
 abbrev pub noTags : StrandTags
 noTags = record { text = []; unconverted = []; converted = [] }
 
--- the strands that are there
+-- the strands of the record, one or two
 abbrev pub strandsOf : Bool → Strand → Strand → List Strand
 strandsOf two? a b = cond two? (a ∷ b ∷ []) (a ∷ [])
 
--- each strand is built over SEQ as both restore it
+-- the whole answer; each strand's tag is built over SEQ as both strands restore it
 unfoldable pub duplexed : Bool → MethylationMode → List ℕ → Strand → Strand → Duplexed
 duplexed two? mode bases a b =
     let strands = strandsOf two? a b in
@@ -73,7 +73,7 @@ duplexed two? mode bases a b =
 
 -- ---- the public call
 
--- how long each part of an answer is
+-- the length of each part of an answer
 abbrev pub lengthsOf : Duplexed → Lengths
 lengthsOf d = record {
   seq = length (d .seq);
@@ -115,7 +115,7 @@ within parts lent =
     && leb (parts .«second_mm») (lent .«second_mm») && leb (parts .«second_unconverted») (lent .«second_unconverted»)
     && leb (parts .«second_converted») (lent .«second_converted»)
 
--- x, if nothing that the call is given is refused: 13 where the number of strands is not 1 or 2, then 1 and 2 for all strands
+-- x, if no input is refused: 13 if the number of strands is not 1 or 2, then 1 and 2 for all strands
 unfoldable pub admitted : {A : Type 0} → ℕ → List ℕ → Strand → Strand → A → Outcome A
 admitted count bases a b x =
     let strands = strandsOf (eqb count 2) a b in

@@ -1,4 +1,4 @@
--- What the first pass answers: these are the contracts of private functions, and no one needs to believe them.
+-- The answer of the first pass. These are contracts of private functions; no promise rests on them.
 -- Assumes nothing.
 use Prim.Native.Nat.{ℕ, _+_}
 use mathlib.Core.Bool.{Bool, cond}
@@ -22,11 +22,11 @@ abbrev pub measuredRefusal : Measured → Refusal
 measuredRefusal (measured.Done s) = refusal 0
 measuredRefusal (measured.Refused r) = r
 
--- SEQ as the strands restore it
+-- SEQ restored by the strands
 abbrev pub restoredSeq : Bool → List ℕ → Strand → Strand → List ℕ
 restoredSeq two? bases a b = restoredByBoth two? (a .pattern) (a .evidence .informative) (b .pattern) (b .evidence .informative) bases
 
--- how long the strands' own tags are
+-- the lengths of the strands' own tags
 abbrev pub bothSizes : Bool → MethylationMode → List ℕ → Strand → Strand → BothSizes
 bothSizes two? mode seq a b = record {
   «first_text» = length (ownTag mode (a .pattern) (a .evidence) seq .text);

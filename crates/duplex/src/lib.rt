@@ -1,8 +1,8 @@
 // The SEQ and the tags of a record with one strand or two. Port step 7.
 //
-// Names are the Rust's. Each strand is a pattern and three columns of evidence, as long as the consensus. SEQ is restored by each strand, each strand's
-// tag is built over that SEQ, and the joined tag has the C to T strand's group first. The number of strands is given as a number; with one the second
-// strand's inputs are not read and its rows stay as lent. No function here asks anything of its caller, and the contract is `Duplexes` of
+// The names are those of the Rust code. Each strand is a pattern and three columns of evidence, as long as the consensus. SEQ is restored by each
+// strand, each strand's tag is built over that SEQ, and the joined tag has the C to T strand's group first. The number of strands is an argument. If
+// it is 1, the second strand's inputs are not read and its rows are unchanged. No public function has a `requires`. The contract is `Duplexes` of
 // specs/Contracts.antt.
 ghost use mathlib.Core.Path.{_≡_};
 ghost use mathlib.Core.Bool.{true, cond, _&&_, _||_};
@@ -32,20 +32,20 @@ pub struct Lengths {
     pub second_converted: usize,
 }
 
-// How much of each row is filled, or why nothing was written.
+// How many entries of each row are filled, or why nothing was written.
 pub enum Duplex {
     Done(Lengths),
     Refused(Refusal),
 }
 
-// What the first pass finds: how long the strands' own tags are, or why the call is refused.
+// The result of the first pass: the lengths of the strands' own tags, or why the call is refused.
 pub enum Measured {
     Done(BothSizes),
     Refused(Refusal),
 }
 
 impl Measured {
-    // The refusal, passed on whole.
+    // The refusal, unchanged. `Done` gives the number 0.
     fn refusal(self) -> Refusal
         ensures { λ r. ⌜ r ≡ measuredRefusal self ⌝ }
     {
@@ -56,14 +56,14 @@ impl Measured {
     }
 }
 
-// The number of strands is 1 or 2.
+// Whether the number of strands is 1 or 2.
 fn is_count(strands: usize) -> bool
     ensures { λ r. ⌜ r ≡ eqb strands 1 || eqb strands 2 ⌝ }
 {
     strands == 1 || strands == 2
 }
 
-// The second strand's columns are no longer than the domain allows, where there is one.
+// Whether the lengths of the second strand's columns are within the domain; true if there is no second strand.
 fn second_in_domain(
     two: bool,
     bases: &[u8],
@@ -79,7 +79,7 @@ fn second_in_domain(
     true
 }
 
-// They are as long as the consensus, where there is one.
+// Whether the second strand's columns are as long as the consensus; true if there is no second strand.
 fn second_agrees(
     two: bool,
     bases: &[u8],
@@ -95,7 +95,7 @@ fn second_agrees(
     true
 }
 
-// The first pass: everything that can be refused but the room, and else how long the strands' own tags are.
+// The first pass: every refusal except for too little room; else the lengths of the strands' own tags.
 fn measure(
     bases: &[u8],
     mode: MethylationMode,
@@ -167,7 +167,7 @@ fn measure(
     ))
 }
 
-// As many counts of the second strand as there are bases, where there is one.
+// The number of counts of the second strand: one for each base, or 0 if there is no second strand.
 fn second_counts(two: bool, bases: usize) -> usize
     ensures { λ r. ⌜ r ≡ cond two bases 0 ⌝ }
 {
@@ -198,7 +198,7 @@ fn part_lengths(two: bool, bases: usize, sizes: BothSizes) -> Lengths
     }
 }
 
-// So far every row had room, and so has this one.
+// Whether every row so far had room, and this one has room too.
 fn fits_too(so_far: bool, part: usize, row: usize) -> bool
     ensures { λ r. ⌜ r ≡ «so_far» && leb part row ⌝ }
 {
@@ -208,7 +208,7 @@ fn fits_too(so_far: bool, part: usize, row: usize) -> bool
     false
 }
 
-// Each row has room for its part.
+// Whether each row has room for its part.
 fn within(parts: Lengths, rows: Lengths) -> bool
     ensures { λ r. ⌜ r ≡ within parts rows ⌝ }
 {
@@ -225,10 +225,10 @@ fn within(parts: Lengths, rows: Lengths) -> bool
     fits_too(fits, parts.second_converted, rows.second_converted)
 }
 
-// SEQ, MM and ML, the combined counts (`cu`, `ct`), and each strand's own text and counts (`am`, `au`, `at` and `bm`, `bu`, `bt`) into lent rows.
-// Done with how much of each row is filled; where there is no call, or no chemistry, SEQ and counts are written and the texts are empty. 13 where there
-// are not 1 or 2 strands, 1 where an input is too long, 2 where the consensus and a strand's columns disagree in length, 12 where a row has no
-// room. With a refusal every row stays as lent.
+// Writes SEQ, MM and ML, the combined counts (`cu`, `ct`), and each strand's own text and counts (`am`, `au`, `at` and `bm`, `bu`, `bt`) into lent
+// rows. Done with the number of filled entries of each row. If there is no call or no chemistry, SEQ and counts are written and the texts are empty.
+// 13 if there are not 1 or 2 strands, 1 if an input is too long, 2 if the consensus and a strand's columns differ in length, 12 if a row has no room.
+// With a refusal every row is unchanged.
 pub fn duplex_methylation_tags(
     bases: &[u8],
     strands: usize,

@@ -54,6 +54,6 @@ edges =
     ∷ edge "l" (cut "ACGT" "CG" none "C+m?,0;" none) (refuse 11)
     ∷ []
 
--- what the list claims: put to the definitions of the public calls, its requests have its answers, row by row
+-- the claim of the list: the definitions of the public calls answer each request with the answer in its row
 abbrev pub Hold : List Edge → Type 0
 Hold rows = map (λ (e : Edge). answerTo (e .request)) rows ≡ map (λ (e : Edge). e .answer) rows

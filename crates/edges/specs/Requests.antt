@@ -1,4 +1,4 @@
--- Requests of the public calls that the scope's examples make, and what the calls' definitions answer to them.
+-- The requests of the scope's examples, and the answers that the definitions of the public calls give to them.
 -- Assumes nothing.
 use Prim.Native.Nat.{ℕ}
 use Prim.Native.String.{String}
@@ -18,15 +18,15 @@ use Rattle.samtags.specs.Spots.{Call, Listing}
 use Rattle.samtags.specs.Writing.{Tag}
 use Rattle.reading.specs.Calls.{listedCalls}
 
--- SEQ (or before, and after), what is asked of it, MM, and ML where there is one
+-- SEQ (or SEQ before and after), the arguments of the call, MM, and ML if there is one
 pub data Request : Type 0 where
   calls : String → String → Option (List ℕ) → Request
   drop : String → List ℕ → String → Option (List ℕ) → Request
   mask : String → String → String → Option (List ℕ) → Request
   cut : String → String → Option ℕ → String → Option (List ℕ) → Request
-  -- EM-Seq over one informative C, with so many unconverted and converted bases
+  -- EM-Seq over one informative C, with these numbers of unconverted and converted bases
   build : ℕ → ℕ → Request
-  -- of a forward read (false) or a reverse one, the CIGAR's words and the start
+  -- a forward read (false) or a reverse read (true), the CIGAR's words and the start
   place : Bool → List ℕ → ℕ → Request
 
 -- the calls of each group, with their values; a tag; places on the reference
@@ -49,7 +49,7 @@ listing ls = listed (map (λ (l : Listing). l .calls) ls)
 abbrev pub tagged : Tag → Answer
 tagged t = tag (t .text) (t .ml)
 
--- each request put to the definition of its public call, with room for 100 entries
+-- the answer of the public call's definition to each request, with room for 100 entries
 unfoldable pub answerTo : Request → Outcome Answer
 unfolding listedCalls callList dropFromTag maskTag cutTag buildTag
 answerTo (calls seq mm ml) = onDone listing (listedCalls (isThere ml) (ascii seq) (ascii mm) (valuesOf ml) 100 100 100)

@@ -1,4 +1,4 @@
--- From what the walk over a tag says to what an edited tag answers and leaves.
+-- From the contract of the walk over a tag to the answer of an edit, and the rows after it.
 -- Assumes nothing.
 use mathlib.Core.Path.{_≡_, refl, sym, ap, _∙_}
 use Prim.Native.Nat.{ℕ, _≤_, _<_}

@@ -1,4 +1,4 @@
--- What a call that edits a tag answers, and what it leaves in the two rows lent for text and ML.
+-- The answer of a call that edits a tag, and the two rows (text and ML) after the call.
 -- Assumes nothing.
 use Prim.Native.Nat.{ℕ}
 use mathlib.Core.Bool.{Bool, cond}
@@ -15,7 +15,7 @@ valuesWith ml? t = cond ml? (t .ml) []
 abbrev pub sizesWith : Bool → Tag → ℕ × ℕ
 sizesWith ml? t = (length (t .text), length (valuesWith ml? t))
 
--- what a call answers, and the rows lent for text and ML as it leaves them
+-- the answer of a call, and the rows lent for text and ML after the call
 pub record Rewrote : Type 0 where
   pub answer : Outcome (ℕ × ℕ)
   pub text : List ℕ
@@ -24,7 +24,7 @@ pub record Rewrote : Type 0 where
 abbrev pub rewrote : Outcome (ℕ × ℕ) → List ℕ → List ℕ → Rewrote
 rewrote answer text ml = record { answer = answer; text = text; ml = ml }
 
--- a call that comes to o: the edited tag at the front of the rows and the rest as lent, or the rows as lent. Without an ML its row stays as lent.
+-- a call with the outcome o: the edited tag at the front of the rows and the rest unchanged, or the rows unchanged. Without ML the ML row is unchanged.
 unfoldable pub leavesTag : Bool → Outcome Tag → List ℕ → List ℕ → Rewrote
 unfolding leaves
 leavesTag ml? o text ml = rewrote (onDone (sizesWith ml?) o) (leaves (λ (t : Tag). t .text) o text) (leaves (valuesWith ml?) o ml)

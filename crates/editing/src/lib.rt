@@ -1,6 +1,6 @@
-// A whole tag, edited. A first walk finds what is refused, so that a refusal writes nothing: one that needs no places, or, where a row is shorter than the
-// tag or places must tell, the walk that writes, over no rows. The room is asked for last. A support crate under the three
-// rewriting calls: a function here may ask something of its caller (`requires`).
+// Edits a whole tag. A first walk finds every refusal, so that a refusal writes nothing. This walk needs no places; but if a row is shorter than the
+// tag, or if the places matter, it is the walk that writes, over empty rows. The room is checked last. A support crate of `rewriting` and `inplace`:
+// its functions may have a `requires`.
 ghost use mathlib.Core.Path.{_≡_};
 ghost use mathlib.Core.Bool.{cond};
 ghost use mathlib.Core.List.{[]};
@@ -18,7 +18,7 @@ use lent::Refusal;
 use lent::Tagged;
 use measuring::Counted;
 
-// SEQ, text and ML are as long as the domain allows; an ML that there is not is not looked at.
+// Whether the lengths of SEQ, text and ML are within the domain. Without ML the ML row is ignored.
 pub fn in_domain(seq: &[u8], mm: &[u8], ml: &[u8], has_ml: bool) -> bool
     ensures { λ r. ⌜ r ≡ inDomain «has_ml» (now (seq .entry)) (now (mm .entry)) (now (ml .entry)) ⌝ }
 {
@@ -32,7 +32,7 @@ pub fn in_domain(seq: &[u8], mm: &[u8], ml: &[u8], has_ml: bool) -> bool
     taken <= 65536
 }
 
-// The first walk, over no rows: everything that can be refused but the room, and how long the edited tag is. Where there is no ML its row is empty.
+// The first walk, over empty rows: every refusal except for too little room, and the lengths of the edited tag. Without ML the ML row is empty.
 pub fn measure(
     seq: &[u8],
     after: &[u8],
@@ -69,7 +69,7 @@ pub fn measure(
     )
 }
 
-// Edits a tag into two lent rows of any length: the first walk is the one that writes, over no rows, which measures.
+// Edits a tag into two lent rows of any length. The first walk is the one that writes, over empty rows, which measures.
 fn edit_measured(
     seq: &[u8],
     after: &[u8],
@@ -115,7 +115,7 @@ fn edit_measured(
     Tagged::Done(end, kept)
 }
 
-// Writes a tag that nothing refuses into rows that are as long as it was: an edited tag is never longer, so the walk itself tells how long it is.
+// Writes a tag that is not refused into rows at least as long as the tag was. An edited tag is never longer, so the walk itself gives its lengths.
 fn edit_checked(
     seq: &[u8],
     after: &[u8],
@@ -143,7 +143,7 @@ fn edit_checked(
     Tagged::Done(size.end, size.kept)
 }
 
-// Edits a tag into rows that are as long as it was: the first walk needs no places. Where it is unsure the tag is measured.
+// Edits a tag into rows at least as long as the tag was. The first walk needs no places. If it is `Unsure`, the tag is measured.
 fn edit_roomy(
     seq: &[u8],
     after: &[u8],
@@ -182,7 +182,7 @@ fn edit_roomy(
     }
 }
 
-// Edits a tag into two lent rows: the reader's numbers and 10, last 12. With any refusal the rows stay as they were lent.
+// Edits a tag into two lent rows: the reader's numbers and 10, last 12. With any refusal the rows are unchanged.
 pub fn edit_tag(
     seq: &[u8],
     after: &[u8],

@@ -1,4 +1,4 @@
--- A call as it is put: what its stores leave, and that what is written stays behind what is read.
+-- Laws of writing a call: the rows after its stores, and that writing never overtakes reading.
 -- Assumes nothing.
 use mathlib.Core.Path.{_≡_, sym, subst}
 use Prim.Native.Nat.{ℕ, suc, _+_, _≤_, min}

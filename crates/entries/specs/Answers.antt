@@ -1,4 +1,4 @@
--- What the cases of each answer mean: the scope's number, and what was asked for; and a pen behind more bases.
+-- The cases of each answer as outcomes: done with the result, or the refusal. Also a pen after more bases.
 -- Assumes nothing.
 use Prim.Native.Nat.{ℕ, _+_}
 use Rattle.lent.specs.Outcome.{Outcome, refused, done, refusal}
@@ -16,6 +16,6 @@ abbrev pub reachedRefusal : Reached → Refusal
 reachedRefusal (reached.On p n) = refusal 0
 reachedRefusal (reached.Refused r) = r
 
--- n bases more that were passed
+-- the pen after n more bases were passed
 abbrev pub pastBy : Pen → ℕ → Pen
 pastBy pen n = record { end = pen .end; kept = pen .kept; gap = pen .gap + n }

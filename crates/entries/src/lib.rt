@@ -1,5 +1,4 @@
-// The entries of a group: one is read against SEQ, and put into the rows as the edit leaves it. A support crate: a function here may ask something of
-// its caller (`requires`).
+// The entries of a group: reads an entry against SEQ, and writes it into the rows as the edit leaves it. A support crate: its functions may have a `requires`.
 ghost use mathlib.Core.Path.{_≡_};
 ghost use mathlib.Core.Bool.{cond, _||_};
 ghost use Prim.Native.Nat.{_+_, _-_, _≤_, min};
@@ -21,14 +20,14 @@ use places::Place;
 use strides::Stride;
 use strides::Window;
 
-// What a group's header says of each of its entries: the base they count, how many values of ML one takes, and whether the group may lose a call.
+// What a group's header says of each entry: the base that it counts, how many values of ML it takes, and whether the group may lose a call.
 pub struct Kind {
     pub base: u8,
     pub values: usize,
     pub may_drop: bool,
 }
 
-// Without an ML no value is taken.
+// The kind of a group's entries. Without ML no value is taken.
 pub fn kind_of(has_ml: bool, header: &[u8]) -> Kind
     requires { ⌜ 2 ≤ length (now header) ⌝ }
     ensures { λ r. ⌜ (r .base ≡ baseOf (now (header .entry))) × (r .values ≡ valuesIf «has_ml» (now (header .entry)))
@@ -44,14 +43,14 @@ pub fn kind_of(has_ml: bool, header: &[u8]) -> Kind
     }
 }
 
-// Where an entry's base stands and how many of the bases that it passes are still of the group's kind, or why there is none.
+// The place of an entry's base, and how many of the bases that it passes are still of the group's kind; or why there is no such base.
 pub enum Reached {
     On(Place, Ordinal),
     Refused(Refusal),
 }
 
 impl Reached {
-    // The refusal, passed on whole.
+    // The refusal, unchanged. `On` gives the number 0.
     pub fn refusal(self) -> Refusal
         ensures { λ r. ⌜ r ≡ reachedRefusal self ⌝ }
     {
@@ -72,7 +71,7 @@ fn one_more(n: Ordinal, yes: bool) -> Ordinal
     n
 }
 
-// Where a walk may begin: behind whole blocks, if there are more than a few bases to pass. Where every base counts, none is looked at.
+// Where a walk may begin: after whole blocks, if there are more than a few bases to pass and the base is not 'N'; else at `from`.
 fn ahead(seq: &[u8], after: &[u8], window: Window, base: u8, from: usize, skip: usize) -> Stride
     requires { ⌜ (from ≤ length (now seq)) × (length (now seq) ≤ 16000) × Told window (now after) (now seq) ⌝ }
     ensures { λ r. ⌜ (from ≤ r .place) × (r .place ≤ length (now (seq .entry))) × (r .passed ≤ skip)
@@ -89,7 +88,7 @@ fn ahead(seq: &[u8], after: &[u8], window: Window, base: u8, from: usize, skip: 
     strides::pass_blocks(seq, after, window, base, from, skip)
 }
 
-// A base of SEQ that was passed is still of its kind. Where nothing changed, it is not looked at again.
+// Whether a passed base of SEQ is still of its kind. If nothing changed, the base is not looked at again.
 fn stays(after: &[u8], window: Window, base: u8, place: Place) -> bool
     ensures { λ r. ⌜ r ≡ (window .same || heldIn (window .lo) (now (after .entry)) base (place .0)) ⌝ }
 {
@@ -99,8 +98,8 @@ fn stays(after: &[u8], window: Window, base: u8, place: Place) -> bool
     changing::still_held(base, after, window.lo, place)
 }
 
-// From a place on, passes `skip` of the group's bases: the place of the next, and how many of the passed ones are still held. A base that is
-// gone counts in no skip. 7 where there is no such base.
+// From a place on, passes `skip` of the group's bases: the place of the next one, and how many of the passed ones are still held. A base that is gone
+// counts in no skip. 7 if SEQ has too few bases.
 pub fn pass_tracked(
     seq: &[u8],
     after: &[u8],
@@ -133,8 +132,8 @@ pub fn pass_tracked(
     Reached::Refused(Refusal(7))
 }
 
-// Reads an entry, from a place on and with so many values of ML left: 6 where its field is no number, 7 where SEQ has no such base, 8 where its
-// values are not all there, 10 where the edit drops its call and the group may lose none.
+// Reads an entry, from a place on and with `left` values of ML left: 6 if its field is no number, 7 if SEQ has too few bases for it, 8 if some of its
+// values are missing, 10 if the edit drops its call and the group may lose none.
 pub fn read_entry(
     seq: &[u8],
     after: &[u8],
@@ -170,7 +169,7 @@ pub fn read_entry(
     reached
 }
 
-// The lesser of the two.
+// The smaller of the two.
 fn at_most(n: usize, most: usize) -> usize
     ensures { λ r. ⌜ r ≡ min n most ⌝ }
 {
@@ -180,7 +179,7 @@ fn at_most(n: usize, most: usize) -> usize
     most
 }
 
-// How many of so many bytes a row has room for from a place on.
+// How many of `bytes` bytes a row has room for, from an index on.
 fn fitting(room: usize, at: usize, bytes: usize) -> usize
     ensures { λ r. ⌜ r ≡ min bytes (room - at) ⌝ }
 {
@@ -190,7 +189,7 @@ fn fitting(room: usize, at: usize, bytes: usize) -> usize
     at_most(bytes, room - at)
 }
 
-// Puts bytes from a place on, as far as the room reaches, and gives the place after them.
+// Writes bytes from an index on, as far as the room reaches, and returns the index after them.
 pub fn put_all(out: &mut [u8], at: usize, bytes: &[u8]) -> usize
     requires { ⌜ (at ≤ 4294967296) × (length (now bytes) ≤ 4294967296) ⌝ }
     ensures { λ r. ⌜ (r ≡ at + length (now (bytes .entry))) × (now (out .exit) ≡ sets (now (out .entry)) at (now (bytes .entry))) ⌝ }
@@ -204,7 +203,7 @@ pub fn put_all(out: &mut [u8], at: usize, bytes: &[u8]) -> usize
     at + bytes.len()
 }
 
-// Puts a comma and the skip, as far as the room reaches, and gives the place after them.
+// Writes a comma and the skip, as far as the room reaches, and returns the index after them.
 pub fn put_skip(out: &mut [u8], at: usize, skip: usize) -> usize
     requires { ⌜ at ≤ 4294967295 ⌝ }
     ensures { λ r. ⌜ (r ≡ at + length (entryText skip)) × (now (out .exit) ≡ sets (now (out .entry)) at (entryText skip)) ⌝ }
@@ -213,7 +212,7 @@ pub fn put_skip(out: &mut [u8], at: usize, skip: usize) -> usize
     numbers::put_decimal(out, at + 1, skip)
 }
 
-// Where what is written of each row ends, and how many of the group's bases were passed since the last call that stays.
+// The end of the written part of each row, and how many of the group's bases were passed since the last call that stays.
 pub struct Pen {
     pub end: usize,
     pub kept: usize,
@@ -221,7 +220,7 @@ pub struct Pen {
 }
 
 impl Pen {
-    // With so many bases more that were passed.
+    // The pen after `passed` more bases.
     pub fn past(self, passed: Ordinal) -> Pen
         requires { ⌜ self .gap + passed .0 ≤ 4294967296 ⌝ }
         ensures { λ r. ⌜ r ≡ pastBy self (passed .0) ⌝ }
@@ -234,7 +233,7 @@ impl Pen {
     }
 }
 
-// Puts a call as the edit leaves it: listed with its values; or dropped, and then its base still counts in the next skip; or gone with its base.
+// Writes a call as the edit leaves it: listed with its values; or dropped, so that its base counts in the next skip; or gone with its base.
 pub fn put_entry(
     after: &[u8],
     marks: &[u8],

@@ -1,5 +1,4 @@
--- An array that lies in a local is lent whole as a slice, and comes back at the slice's last list: what a walk by hand cites before and after the
--- call.
+-- A local array is lent as a slice of all its elements, and comes back with the slice's last list. A proof by hand cites this before and after the call.
 -- Assumes `Given`.
 use mathlib.Core.Path.{_≡_, refl, sym, subst}
 use mathlib.Core.List.{List, [], _∷_}

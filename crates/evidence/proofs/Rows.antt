@@ -1,4 +1,4 @@
--- A row whose first records are gated and what `gate_row` leaves.
+-- A row whose first records are gated, and the row that `gate_row` leaves.
 -- Assumes nothing.
 use mathlib.Core.Path.{_≡_, sym, _∙_}
 use Prim.Native.Nat.{ℕ, suc, _≤_, _<_}

@@ -1,4 +1,4 @@
--- What counting a base comes to where it shows the unconverted base, where it shows the converted one, and where it shows neither.
+-- Counting a base that shows the unconverted base, the converted base, or neither.
 -- Assumes nothing.
 use mathlib.Core.Path.{_≡_, refl, sym, _∙_}
 use Prim.Native.Nat.{ℕ, _+_}
@@ -13,7 +13,7 @@ use Rattle.pattern.specs.declared.ConversionPattern.the-variants.{CToT, GToA}
 use Rattle.evidence.specs.Position.{capped, counted}
 use Rattle.evidence.specs.declared.MethylationEvidence.{MethylationEvidence}
 
--- the bases of a pattern stand in upper case
+-- the bases of a pattern are upper-case letters
 shows-unconverted : (p : ConversionPattern) (base : ℕ) → sameInAnyCase base (basesOf p .unconverted) ≡ eqb (upper base) (basesOf p .unconverted)
 unfolding sameInAnyCase upper
 shows-unconverted CToT base = refl

@@ -1,5 +1,5 @@
--- What each public call promises: one proposition for a call, over its arguments, its answer and the lent row as the call leaves it. The call's
--- `ensures` cites it, and every theorem about the call takes it.
+-- The promise of each public call: one proposition per call, about its arguments, its answer and the lent row after the call. The call's `ensures`
+-- cites it, and every theorem about the call uses it.
 -- Assumes nothing.
 use mathlib.Core.Path.{_≡_}
 use Prim.Native.Nat.{ℕ}
@@ -22,10 +22,10 @@ StartsEvidence informative? r = r ≡ fresh informative?
 abbrev pub CountsBase : MethylationEvidence → ℕ → ConversionPattern → MethylationEvidence → Type 0
 CountsBase e base p r = r ≡ counted e base p
 
--- `gated`: the evidence of a position, and what gating leaves of it
+-- `gated`: the evidence of a position, and the evidence after gating
 abbrev pub GatesPosition : MethylationEvidence → MethylationEvidence → Type 0
 GatesPosition e r = r ≡ gated e
 
--- `gate_row`: a row of records as lent, the answer, and the row as left
+-- `gate_row`: a lent row of records, the answer, and the row after the call
 abbrev pub GatesRow : List MethylationEvidence → Written → List MethylationEvidence → Type 0
 GatesRow row r row′ = (says r ≡ rowOf (length row)) × (row′ ≡ leaves (λ (n : ℕ). gatedRow row) (rowOf (length row)) row)

@@ -1,4 +1,4 @@
--- The evidence of one position: with nothing counted, with one base more, and gated.
+-- The evidence of one position: with nothing counted, with one more base, and gated.
 -- Assumes nothing.
 use Prim.Native.Nat.{ℕ, _+_, min}
 use mathlib.Core.Bool.{Bool, false, cond}
@@ -12,7 +12,7 @@ use Rattle.evidence.specs.declared.MethylationEvidence.{MethylationEvide
 abbrev pub capped : ℕ → ℕ
 capped n = min 4294967295 n
 
--- one more where the base is the one that is counted
+-- one more, if the base is the counted one
 abbrev pub countedIf : Bool → ℕ → ℕ
 countedIf is n = cond is (capped (n + 1)) n
 
@@ -20,7 +20,7 @@ countedIf is n = cond is (capped (n + 1)) n
 abbrev pub fresh : Bool → MethylationEvidence
 fresh informative? = record { informative = informative?; unconverted = 0; converted = 0 }
 
--- one read's base counted, in any case: as the pattern's unconverted base, as its converted one, or as neither
+-- one read's base counted, in upper or lower case: as the pattern's unconverted base, as its converted base, or not at all
 abbrev pub counted : MethylationEvidence → ℕ → ConversionPattern → MethylationEvidence
 counted e base p = record {
   informative = e .informative;

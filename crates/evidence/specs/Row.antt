@@ -12,7 +12,7 @@ use Rattle.evidence.specs.declared.MethylationEvidence.{MethylationEvide
 unfoldable pub gatedRow : List MethylationEvidence → List MethylationEvidence
 gatedRow row = map gated row
 
--- 1 above 16,000; done with how many records the row has
+-- 1 for more than 16,000 records; else done with the number of records
 unfoldable pub rowOf : ℕ → Outcome ℕ
 rowOf n = need (leb n 16000) 1 (done n)
 

@@ -1,7 +1,7 @@
-// The evidence of a position, and a lent row of such records: port step 3, its smallest part.
+// The evidence of one position, and gating a lent row of evidence records: the smallest part of port step 3.
 //
-// Names are the Rust's. Counting, gating and the rest over columns stand in the crate `annotation`. No function here asks anything of its caller,
-// and each public call's contract is one proposition of specs/Contracts.
+// The names are those of the Rust code. Counting, gating and the other work on columns are in the crate `annotation`. No function here has a
+// `requires`. Each public call's contract is one proposition of specs/Contracts.
 ghost use mathlib.Core.Path.{_≡_};
 ghost use Prim.Native.Nat.{_+_};
 ghost use Rattle.lent.specs.Outcome.{says};
@@ -12,8 +12,8 @@ use lent::Refusal;
 use lent::Written;
 use pattern::ConversionPattern;
 
-// The evidence of one position: whether it carries a call for the strand, and how many of the reads that were counted there show the
-// unconverted and the converted base.
+// The evidence of one position: whether it carries a call for the strand, and how many of the counted reads show the unconverted and the converted
+// base there.
 pub struct MethylationEvidence {
     pub informative: bool,
     pub unconverted: u32,
@@ -21,7 +21,7 @@ pub struct MethylationEvidence {
 }
 
 impl MethylationEvidence {
-    // A position where nothing was counted yet.
+    // A position with nothing counted yet.
     pub fn new(informative: bool) -> Self
         ensures { λ r. ⌜ StartsEvidence informative r ⌝ }
     {
@@ -32,7 +32,7 @@ impl MethylationEvidence {
         }
     }
 
-    // The evidence with one read's base counted, in any case.
+    // The evidence with one read's base counted, in upper or lower case.
     pub fn counted(self, base: u8, pattern: ConversionPattern) -> Self
         ensures { λ r. ⌜ CountsBase self base pattern r ⌝ }
     {
@@ -56,7 +56,7 @@ impl MethylationEvidence {
         self
     }
 
-    // The evidence as it is where the position is informative, and none elsewhere.
+    // The evidence unchanged if the position is informative, else a position with nothing counted.
     pub fn gated(self) -> Self
         ensures { λ r. ⌜ GatesPosition self r ⌝ }
     {
@@ -67,7 +67,7 @@ impl MethylationEvidence {
     }
 }
 
-// One more, and no more than a u32 holds.
+// One more, but at most the largest u32.
 fn one_more(count: u32) -> u32
     ensures { λ r. ⌜ r ≡ capped (count + 1) ⌝ }
 {
@@ -77,7 +77,7 @@ fn one_more(count: u32) -> u32
     count + 1
 }
 
-// Gates a lent row of evidence records, as `gate_to_informative` gates the columns: 1 above 16,000 records, and else each record gated.
+// Gates a lent row of evidence records, as `gate_to_informative` gates the columns. Refused with 1 for more than 16,000 records.
 pub fn gate_row(row: &mut [MethylationEvidence]) -> Written
     ensures { λ r. ⌜ GatesRow (now (row .entry)) r (now (row .exit)) ⌝ }
 {
@@ -91,7 +91,7 @@ pub fn gate_row(row: &mut [MethylationEvidence]) -> Written
     answer_for_row(row.len())
 }
 
-// Three records, gated through a lent row: a caller of `gate_row` that knows no more of it than its contract.
+// Gates three records through a lent row: a caller of `gate_row` that knows only its contract.
 fn gated_three(row: [MethylationEvidence; 3]) -> [MethylationEvidence; 3]
     ensures { λ r. ⌜ r ≡ gatedRow row ⌝ }
 {
@@ -100,7 +100,7 @@ fn gated_three(row: [MethylationEvidence; 3]) -> [MethylationEvidence; 3]
     own
 }
 
-// All records of a row that the domain allows, none of a longer one.
+// All records of a row that the domain allows, none of a longer row.
 fn records_to_gate(records: usize) -> usize
     ensures { λ r. ⌜ r ≡ recordsToGate records ⌝ }
 {

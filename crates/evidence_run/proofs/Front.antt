@@ -1,4 +1,4 @@
--- The front of an array that lies in a local is lent as a slice, and comes back: what a walk by hand cites before and after the call.
+-- The front of a local array is lent as a slice, and comes back. A proof by hand cites this before and after the call.
 -- Assumes `Given`.
 use mathlib.Core.Path.{_≡_, refl, sym, subst}
 use mathlib.Core.List.{List, [], _∷_, _++_}

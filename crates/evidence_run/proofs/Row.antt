@@ -1,4 +1,4 @@
--- An array of evidence records, and what its front owes to `gate_row` and has of it: of the callee no more is known than that it meets its contract.
+-- An array of evidence records whose front is lent to `gate_row`: what the call needs and what it gives. Of the callee only its contract is known.
 -- Assumes `Given`.
 use mathlib.Core.List.{[], _∷_, List}
 use Prim.Native.Nat.{ℕ}

@@ -1,15 +1,15 @@
-// `evidence_run`: a run of `evidence::gate_row`, which C can't call. It gates the first n of 16,001 records, and prints a line for each n: the
-// answer's number, how many records are done, and the first and the last of the n as they are afterwards.
+// `evidence_run` runs `evidence::gate_row`, which C can't call. It gates the first n of 16,001 records, for several n. For each n it prints one line:
+// the answer's number, how many records are done, and the first and the last of the n records after the call.
 //
-// `gate_row` takes a lent row of structs, which the borrow checker does not cover. So the function that lends one is as small as can be, and is
-// proved by hand; all else passes the array by value.
+// `gate_row` takes a lent row of structs, which the borrow checker does not cover. So the function that lends the row is as small as possible and is
+// proved by hand. All other functions pass the array by value.
 ghost use Prim.Native.Nat.{_≤_};
 use evidence::MethylationEvidence;
 use evidence::gate_row;
 use lent::Written;
 use libc::STDOUT_FILENO;
 
-// No count is 0, so that it shows whether a record was gated.
+// No count is 0, so the counts show whether a record was gated.
 fn record_at(i: usize) -> MethylationEvidence {
     MethylationEvidence {
         informative: i % 2 == 1,
@@ -30,13 +30,13 @@ fn all_records() -> [MethylationEvidence; 16001] {
     row
 }
 
-// What the call answers, and the whole array as the call leaves it.
+// The answer of the call, and the whole array after the call.
 struct Left {
     answer: Written,
     row: [MethylationEvidence; 16001],
 }
 
-// Gates the first n records. The answer and the array are of one call.
+// Gates the first n records. The answer and the array are from the same call.
 fn gated(row: [MethylationEvidence; 16001], n: usize) -> Left
     requires { ⌜ n ≤ 16001 ⌝ }
 {
@@ -72,7 +72,7 @@ fn print_record(e: MethylationEvidence, after: &[u8]) {
     print(e.converted as u64, after);
 }
 
-// The place of the last of n records. Of none it is the array's first, which must be left as it was.
+// The index of the last of n records. For n = 0 it is 0; that record must stay unchanged.
 fn last_of(n: usize) -> usize
     requires { ⌜ n ≤ 16001 ⌝ }
     ensures { λ r. ⌜ r ≤ 16000 ⌝ }

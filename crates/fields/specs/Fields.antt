@@ -5,6 +5,6 @@ use mathlib.Core.List.{List}
 use Rattle.samtags.specs.Bytes.{comma, semicolon}
 use Rattle.samtags.specs.Text.{upTo}
 
--- up to the comma or semicolon that ends it
+-- the bytes up to the comma or semicolon that ends the field
 abbrev pub fieldOf : List ℕ → List ℕ
 fieldOf text = upTo comma (upTo semicolon text)

@@ -1,4 +1,4 @@
-// The fields of a text, and what is asked of a text before it is read. A support crate: a function here may ask something of its caller (`requires`).
+// The fields of a text, and the checks of a text before it is read. A support crate: its functions may have a `requires`.
 ghost use mathlib.Core.Path.{_≡_};
 ghost use Prim.Native.Nat.{_≤_};
 ghost use lib.Dec.{eqb};
@@ -7,7 +7,7 @@ ghost use Rattle.lent.specs.Lists.{every, lastOr};
 ghost use Rattle.samtags.specs.Bytes.{semicolon, isAscii};
 ghost use Rattle.fields.specs.Fields.{fieldOf};
 
-// The field that begins at a place: a part of the caller's own text, up to the comma or semicolon that ends it.
+// The field that begins at index `from`: a part of the caller's own text, up to the comma or semicolon that ends it.
 pub fn next_field(text: &[u8], from: usize) -> &[u8]
     requires { ⌜ from ≤ length (now text) ⌝ }
     ensures { λ r. ⌜ now r ≡ fieldOf (drop from (now (text .entry))) ⌝ }
@@ -25,7 +25,7 @@ pub fn next_field(text: &[u8], from: usize) -> &[u8]
     &text[from..end]
 }
 
-// No byte is above 127. It looks at all of them, which takes less than to stop at the first one: sixteen are looked at in one step.
+// Whether no byte is above 127. It looks at all bytes, which is faster than stopping at the first one: sixteen are looked at in one step.
 pub fn all_ascii(text: &[u8]) -> bool
     ensures { λ r. ⌜ r ≡ every isAscii (now (text .entry)) ⌝ }
 {
@@ -40,7 +40,7 @@ pub fn all_ascii(text: &[u8]) -> bool
     ascii
 }
 
-// The text's last group is closed.
+// Whether the text's last group is closed.
 pub fn ends_in_semicolon(text: &[u8]) -> bool
     ensures { λ r. ⌜ r ≡ eqb (lastOr 0 (now (text .entry))) semicolon ⌝ }
 {

@@ -1,4 +1,4 @@
--- A header's codes, as they come out when marks are taken off its end one by one.
+-- A header's codes, found by taking marks off its end one by one.
 -- Assumes nothing.
 use mathlib.Core.Path.{_≡_}
 use Prim.Native.Nat.{_+_, _-_, _<_, _≤_, suc, ℕ}

@@ -1,5 +1,5 @@
-// What a header says: its base, its codes, how many ML values a listed base takes, and whether an unlisted base is of unknown status. A support crate: a
-// function here may ask something of its caller (`requires`).
+// What a header says: its base, its codes, how many ML values a listed base takes, and whether an unlisted base is of unknown status. A support
+// crate: its functions may have a `requires`.
 ghost use mathlib.Core.Path.{_≡_};
 ghost use Prim.Native.Nat.{_≤_};
 ghost use lib.ListN.{length};
@@ -63,7 +63,7 @@ pub fn values_per(header: &[u8]) -> usize
     codes.len()
 }
 
-// The same where there may be no ML: without one no value is taken.
+// The same if ML may be missing: without ML no value is taken.
 pub fn values_if(has_ml: bool, header: &[u8]) -> usize
     requires { ⌜ 2 ≤ length (now header) ⌝ }
     ensures { λ r. ⌜ r ≡ valuesIf «has_ml» (now (header .entry)) ⌝ }
@@ -82,7 +82,7 @@ pub fn base_of(header: &[u8]) -> u8
     pattern::to_ascii_uppercase(header[0])
 }
 
-// An unlisted base is of unknown status.
+// Whether an unlisted base is of unknown status: the header ends in '?'.
 pub fn ends_in_question(header: &[u8]) -> bool
     requires { ⌜ 2 ≤ length (now header) ⌝ }
     ensures { λ r. ⌜ r ≡ endsInQuestion (now (header .entry)) ⌝ }

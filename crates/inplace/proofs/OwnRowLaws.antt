@@ -1,4 +1,4 @@
--- What an edited tag leaves in its own rows.
+-- The rows of a tag after it was edited in them.
 -- Assumes nothing.
 use mathlib.Core.Path.{_≡_, sym, ap, _∙_}
 use Prim.Native.Nat.{ℕ, _≤_}

@@ -1,6 +1,6 @@
-// A whole tag, edited in its own rows. An edited tag is never longer than the tag was, and a walk from the left writes behind what it still has to read: so
-// it needs no copy of the text or of ML. A first walk finds what is refused, so that a refusal writes nothing; the tag is then written by a walk that can no
-// longer refuse. A support crate: a function here may ask something of its caller (`requires`).
+// Edits a whole tag in its own rows. An edited tag is never longer than the tag was, and a walk from the left overwrites only what it has read. So it
+// needs no copy of the text or of ML. A first walk finds every refusal, so that a refusal writes nothing; then a walk that can no longer refuse
+// writes the tag. A support crate: its functions may have a `requires`.
 ghost use mathlib.Core.Path.{_≡_};
 ghost use mathlib.Core.Bool.{cond};
 ghost use Prim.Native.Nat.{_≤_};
@@ -14,7 +14,7 @@ use drafting::Edited;
 use lent::Tagged;
 use measuring::Counted;
 
-// Edits a tag where it stands: the first walk is the one over two rows, over none, which looks for every place.
+// Edits a tag in place. The first walk is `editing::measure`, which looks for every place.
 fn edit_measured(
     seq: &[u8],
     after: &[u8],
@@ -39,7 +39,7 @@ fn edit_measured(
     Tagged::Done(size.end, size.kept)
 }
 
-// Writes a tag that nothing refuses: no room is asked for, since an edited tag is never longer.
+// Writes a tag that is not refused. No room is checked, since an edited tag is never longer.
 fn edit_checked(
     seq: &[u8],
     after: &[u8],
@@ -64,8 +64,8 @@ fn edit_checked(
     Tagged::Done(size.end, size.kept)
 }
 
-// Edits a tag where it stands: the reader's numbers and 10, and with any refusal the rows stay as they were. The first walk needs no places; where it is
-// unsure the tag is measured. Without an ML its row is not looked at.
+// Edits a tag in place: the reader's numbers and 10, and with any refusal the rows are unchanged. The first walk needs no places; if it is `Unsure`,
+// the tag is measured. Without ML the ML row is ignored.
 pub fn edit_in_place(
     seq: &[u8],
     after: &[u8],

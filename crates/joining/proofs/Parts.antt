@@ -1,4 +1,4 @@
--- A row whose part from a place on was lent and came back; texts in the order of the joined tag; the front of a row that was changed in place.
+-- Laws of rows whose part or front is lent and comes back, and of both strands' texts and values in the order of the joined tag.
 -- Assumes nothing.
 use mathlib.Core.Path.{_∙_, _≡_, ap, refl, sym}
 use Prim.Native.Nat.{_+_, _-_, _≤_, ℕ}

@@ -1,7 +1,7 @@
-// One strand or two in one record: SEQ restored by both, their counts added up, their tags joined with C to T first. A support crate: a function here
-// may ask something of its caller (`requires`); the public call stands in `duplex`.
+// One strand or two in one record: SEQ restored by both, their counts added, their tags joined with C to T first. A support crate: its functions may
+// have a `requires`; the public call is in `duplex`.
 //
-// `two` says whether there is a second strand; where there is none its inputs are not read and its rows stay.
+// `two` says whether there is a second strand. If there is none, its inputs are not read and its rows are unchanged.
 ghost use mathlib.Core.Path.{_≡_};
 ghost use mathlib.Core.Bool.{true, cond};
 ghost use mathlib.Core.List.{[]};
@@ -56,7 +56,7 @@ pub fn restore(
 
 // ---- counts
 
-// The sum of two counts as a tag holds it. A sum that a u32 could not hold is far above what the tag holds.
+// The sum of two counts as a tag holds it. It is computed in 64 bits, since it can exceed a u32.
 fn sum_of(a: u32, b: u32) -> i16
     ensures { λ r. ⌜ r ≡ pos (min 32767 (a + b)) ⌝ }
 {
@@ -67,7 +67,7 @@ fn sum_of(a: u32, b: u32) -> i16
     total as i16
 }
 
-// The sums of two columns to the front of a row.
+// Writes the sums of two columns to the front of a row.
 fn put_sums(a: &[u32], b: &[u32], counts: &mut [i16])
     requires { ⌜ (length (now b) ≡ length (now a)) × (length (now a) ≤ length (now counts)) ⌝ }
     ensures { λ _. ⌜ now (counts .exit) ≡ over (bothCounts (now (a .entry)) (now (b .entry))) (now (counts .entry)) ⌝ }
@@ -79,7 +79,7 @@ fn put_sums(a: &[u32], b: &[u32], counts: &mut [i16])
     }
 }
 
-// One kind of counts: both strands' together, and each strand's own.
+// Writes one kind of counts: both strands' together, and each strand's own.
 pub fn put_counts(
     two: bool,
     first: &[u32],
@@ -105,7 +105,7 @@ pub fn put_counts(
 
 // ---- texts
 
-// The second strand's group comes first only where it is C to T and the first one's is not.
+// Whether the second strand's group comes first: only if it is C to T and the first strand's group is not.
 fn second_first(first: ConversionPattern, second: ConversionPattern) -> bool
     ensures { λ r. ⌜ r ≡ secondFirst first second ⌝ }
 {
@@ -118,7 +118,7 @@ fn second_first(first: ConversionPattern, second: ConversionPattern) -> bool
     }
 }
 
-// Of the two strands' texts the one that comes first, as lent: a part of one of two rows.
+// The text that comes first, of the two strands' texts: a part of one of two lent rows.
 fn first_text<'a>(
     first: ConversionPattern,
     a: &'a [u8],
@@ -137,7 +137,7 @@ fn first_text<'a>(
     &a[0..a_len]
 }
 
-// The one that comes second.
+// The text that comes second.
 fn second_text<'a>(
     first: ConversionPattern,
     a: &'a [u8],
@@ -156,7 +156,7 @@ fn second_text<'a>(
     &b[0..b_len]
 }
 
-// Joins the strands' texts: the second group is written into the room that begins where the first one ended.
+// Joins the strands' texts: the second text is written directly after the first one.
 pub fn join<'a>(
     first: ConversionPattern,
     a: &'a [u8],
@@ -180,7 +180,7 @@ pub fn join<'a>(
 
 // ---- the strands' own tags
 
-// How long each strand's own tag is.
+// The lengths of each strand's own tag.
 pub struct BothSizes {
     pub first_text: usize,
     pub first_values: usize,
@@ -188,7 +188,7 @@ pub struct BothSizes {
     pub second_values: usize,
 }
 
-// How long the second strand's own tag is, where there is one.
+// The lengths of the second strand's own tag; both are 0 if there is no second strand.
 fn measure_second(
     two: bool,
     seq: &[u8],
@@ -217,7 +217,7 @@ fn scratch() -> [u8; 16000]
     [0; 16000]
 }
 
-// How long each strand's own tag is, over SEQ as both restore it.
+// The lengths of each strand's own tag, over SEQ as both strands restore it.
 pub fn measure(
     bases: &[u8],
     mode: MethylationMode,
@@ -277,7 +277,7 @@ pub fn measure(
     }
 }
 
-// Writes the second strand's own tag, which has so many calls, to the front of two rows, where there is one.
+// If there is a second strand, writes its own tag, which has `calls` calls, to the front of two rows.
 fn put_second(
     two: bool,
     seq: &[u8],
@@ -313,7 +313,7 @@ fn put_second(
     }
 }
 
-// Where a strand's values begin: behind the other's where those come first.
+// The index of a strand's first value: after the other strand's values if those come first, else 0.
 fn start_of(other_first: bool, other: usize) -> usize
     ensures { λ r. ⌜ r ≡ cond «other_first» other 0 ⌝ }
 {

@@ -1,4 +1,4 @@
--- Which numbers an outcome can have, from its definition's shape: one law for each way in which outcomes are made.
+-- The numbers that an outcome can have, from the form of its definition: one law for each way to make an outcome.
 -- Assumes nothing.
 use mathlib.Core.Path.{_≡_, refl, sym, ap, _∙_}
 use Prim.Native.Nat.{ℕ}
@@ -49,7 +49,7 @@ module _ {A B : Type 0} where
   row-kept part (refused r) row row′ e d = e
   row-kept part (done a) row row′ e d = let z : _≡_ {A = ℕ} 0 1 = cc in absurd (omega arith)
 
-  -- the answer is not done just where the outcome is not
+  -- the answer is not done exactly when the outcome is not
   pub not-done : (f : A → B) (o : Outcome A) (s : Outcome B) → s ≡ onDone f o → isDone s ≡ false → isDone o ≡ false
   not-done f (refused r) s e d = refl
   not-done f (done a) s e d = sym (ap isDone e) ∙ d

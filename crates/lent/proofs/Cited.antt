@@ -1,6 +1,6 @@
--- What a call's contract is: the postcondition that the kit makes of its `ensures`, and that the code is proved to meet (`Reads.Post`). A theorem
--- `NAME-cited` of a crate's proofs/Cited says that it gives the proposition of specs/ which promises take; so a contract that says less is refused
--- in the call's own crate.
+-- A call's contract is the postcondition that the kit makes of its `ensures`, and that the code is proved to meet (`Reads.Post`). A theorem `NAME-cited`
+-- in a crate's proofs/Cited says that the contract gives the proposition of specs/ from which promises start. So a contract that says less is refused in
+-- the call's own crate.
 -- Assumes nothing.
 use Prim.Native.Nat.{ℕ}
 use mathlib.Core.List.{List}

@@ -1,5 +1,5 @@
--- Laws of what a lent output holds: its length, one element more, a part that was lent on and came back, what lies past the list; and that
--- the answer and the list settle it.
+-- Laws of a lent output row: its length, one more element, a part that is lent on and comes back, and the elements past the list. The answer and the list
+-- determine the row.
 -- Assumes nothing.
 use mathlib.Core.Path.{_≡_, refl, sym, ap, _∙_}
 use mathlib.Core.List.{List, [], _∷_, _++_, append-assoc, append-nil}

@@ -1,5 +1,5 @@
--- A row that is changed in place from the left: its first elements are what f makes of them, the others as they were. What a loop of
--- `row[i] = f(row[i])` keeps, over any element type.
+-- A row that is changed in place from the left: its first elements are f of what they were, and the others are unchanged. This is the invariant of a loop
+-- `row[i] = f(row[i])`, for any element type.
 -- Assumes nothing.
 use mathlib.Core.Path.{_≡_, refl, ap}
 use mathlib.Core.List.{List, [], _∷_, map}
@@ -10,7 +10,7 @@ use lib.ListN.{length, getD, set}
 use Rattle.lent.specs.Lists.{zipWith}
 
 module _ {A : Type 0} (f : ℕ → A → A) where
-  -- the first k elements changed; f is told the place, and the head stands at place i
+  -- the first k elements changed; f is told the place, and the head is at place i
   abbrev pub changedFrom : ℕ → ℕ → List A → List A
   changedFrom i zero xs = xs
   changedFrom i (suc k) [] = []

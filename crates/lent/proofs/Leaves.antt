@@ -1,4 +1,4 @@
--- What a call leaves in a lent row, from the answer that it passes on: a refusal leaves the row as lent, Done leaves the finished part.
+-- A lent row after a call, from the answer that the call passes on: a refusal leaves the row unchanged, and Done leaves the finished part.
 -- Assumes nothing.
 use mathlib.Core.Path.{_≡_, sym, ap, _∙_}
 use Prim.Native.Nat.{ℕ}

@@ -1,4 +1,4 @@
--- Laws of the tests over a list, of lists that are known from a place on, and of the tests at a place that a loop has come to.
+-- Laws of the tests over a list, of lists that are known from an index on, and of the tests at a loop's index.
 -- Assumes nothing.
 use mathlib.Core.Path.{_≡_, refl, sym, ap, _∙_}
 use mathlib.Core.Bool.{Bool, true, false, cond, not, _&&_, _||_}

@@ -1,4 +1,4 @@
--- Taking an outcome apart: what holds where something was done.
+-- Taking an outcome apart: what is known when it is done.
 -- Assumes nothing.
 use mathlib.Core.Path.{_≡_, refl, ap}
 use Prim.Native.Nat.{ℕ}

@@ -1,4 +1,5 @@
--- Stores one by one from a place on, as far as the row reaches: one more, a run behind a run, and a run into a part of the row that was lent on.
+-- Storing elements one by one from a place on, as far as the row reaches: one more element, one run behind another, and a run into a part of the row that
+-- is lent on.
 -- Assumes nothing.
 use mathlib.Core.Path.{_≡_, refl, sym, ap, _∙_}
 use mathlib.Core.List.{List, [], _∷_, _++_, append-assoc, append-nil}

@@ -1,4 +1,4 @@
--- Laws of tabulated lists, and of rows that are filled or changed from the left: what a loop over a row keeps and comes to.
+-- Laws of tabulated lists, and of rows that are filled or changed from the left: the invariant of a loop over a row, and its result.
 -- Assumes nothing.
 use mathlib.Core.Path.{_≡_, refl, sym, ap, _∙_}
 use Prim.Native.Nat.{ℕ, zero, suc, _+_, _-_, _≤_, _<_}
@@ -71,7 +71,7 @@ module _ {A : Type 0} where
 
   -- ---- changed in place
 
-  -- a turn of the loop: what it stores at place i is what f makes of what stands there
+  -- a turn of the loop: what it stores at place i is f of what is there
   pub changed-turn : (f : ℕ → A → A) (d : A) (row₀ row : List A) (i : ℕ) (v : A) → row ≡ changedUpTo f i row₀ → i < length row₀
       → v ≡ f i (getD row i d) → set row i v ≡ changedUpTo f (i + 1) row₀
   changed-turn f d row₀ row i v e h w =

@@ -1,4 +1,4 @@
--- Tests over a list, and lists made from a list: what the definitions of tags and evidence are written with.
+-- Tests over a list, and lists made from a list. The definitions of tags and evidence use them.
 -- Assumes nothing.
 use Prim.Native.Nat.{ℕ, zero, suc, _+_}
 use mathlib.Core.Bool.{Bool, true, false, cond, _&&_, _||_}
@@ -25,34 +25,34 @@ module _ {A : Type 0} where
   isEmpty [] = true
   isEmpty (x ∷ xs) = false
 
-  -- f of i, of i + 1, and so on, n of them
+  -- f i, f (i + 1), and so on: n values
   abbrev pub tabulateFrom : ℕ → ℕ → (ℕ → A) → List A
   tabulateFrom i zero f = []
   tabulateFrom i (suc n) f = f i ∷ tabulateFrom (suc i) n f
 
-  -- f of each place below n
+  -- f of each index below n
   abbrev pub tabulate : ℕ → (ℕ → A) → List A
   tabulate n f = tabulateFrom 0 n f
 
-  -- the last element, or d where there is none
+  -- the last element, or d if the list is empty
   abbrev pub lastOr : A → List A → A
   lastOr d [] = d
   lastOr d (x ∷ xs) = lastOr x xs
 
 module _ {A B : Type 0} where
-  -- what f makes of each element, one after the other
+  -- the lists f x of all elements x, joined in order
   abbrev pub concatMap : (A → List B) → List A → List B
   concatMap f [] = []
   concatMap f (x ∷ xs) = f x ++ concatMap f xs
 
 module _ {A B C : Type 0} where
-  -- what f makes of the first of each list, of the second of each, and so on, as far as both go
+  -- f of the two first elements, of the two second elements, and so on, up to the end of the shorter list
   abbrev pub zipWith : (A → B → C) → List A → List B → List C
   zipWith f [] ys = []
   zipWith f (x ∷ xs) [] = []
   zipWith f (x ∷ xs) (y ∷ ys) = f x y ∷ zipWith f xs ys
 
--- n stands in the list
+-- n is in the list
 abbrev pub among : List ℕ → ℕ → Bool
 among ns n = any (λ m. eqb m n) ns
 

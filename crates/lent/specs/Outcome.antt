@@ -1,5 +1,5 @@
--- What a call comes to: a refusal, with its number, or what was asked for. 20 and 21, which are no refusals, come as such numbers too: with them
--- nothing is written either.
+-- The outcome of a call: a refusal with its number, or the result that was asked for. The numbers 20 and 21 are no refusals, but they are represented
+-- in the same way: with them nothing is written either.
 -- Assumes nothing.
 use Prim.Native.Nat.{ℕ}
 use mathlib.Core.Bool.{Bool, true, false}
@@ -22,38 +22,38 @@ module _ {A : Type 0} where
   abbrev pub refuse : ℕ → Outcome A
   refuse n = refused (refusal n)
 
-  -- refused with n where the test fails
+  -- refused with n if the test fails
   abbrev pub need : Bool → ℕ → Outcome A → Outcome A
   need true n o = o
   need false n o = refuse n
 
-  -- the scope's number: 0 is done
+  -- the number of the scope's table; 0 is done
   abbrev pub numberOf : Outcome A → ℕ
   numberOf (refused r) = r .0
   numberOf (done a) = 0
 
 module _ {A B : Type 0} where
-  -- the refusal passed on, or f of what was asked for
+  -- passes a refusal on, or applies f to the result
   abbrev pub onDone : (A → B) → Outcome A → Outcome B
   onDone f (refused r) = refused r
   onDone f (done a) = done (f a)
 
-  -- the refusal passed on, or what f comes to
+  -- passes a refusal on, or answers f of the result
   abbrev pub andThen : Outcome A → (A → Outcome B) → Outcome B
   andThen (refused r) f = refused r
   andThen (done a) f = f a
 
-  -- f of the first of the list and the others, or refused with n where the list is empty
+  -- f of the first element and the rest, or refused with n if the list is empty
   abbrev pub withFirst : List A → ℕ → (A → List A → Outcome B) → Outcome B
   withFirst [] n f = refuse n
   withFirst (x ∷ xs) n f = f x xs
 
--- each case of `Written` with the scope's number and values: 0 and how many entries, or the refusal
+-- `Written` as an outcome: done with the number of entries, or the refusal
 abbrev pub says : Written → Outcome ℕ
 says (Done n) = done n
 says (Refused r) = refused r
 
--- each case of `Tagged` likewise: 0 and how many bytes of text and values of ML, or the refusal
+-- `Tagged` as an outcome: done with the number of text bytes and of ML values, or the refusal
 abbrev pub tagSays : Tagged → Outcome (ℕ × ℕ)
 tagSays (tagged.Done t m) = done (t, m)
 tagSays (tagged.Refused r) = refused r

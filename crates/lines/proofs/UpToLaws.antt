@@ -1,4 +1,4 @@
--- A text walked from the left, up to the next byte c: at a place of the whole text; then its lines, and the fields of a line.
+-- Walking a text from the left up to the next byte c, from any place of the text; then the lines of a text, and the fields of a line.
 -- Assumes nothing.
 use mathlib.Core.Path.{_≡_, refl, ap, _∙_}
 use Prim.Native.Nat.{ℕ, suc, _+_, _≤_, _<_}
@@ -31,7 +31,7 @@ up-to-take : (c : ℕ) (xs : List ℕ) → take (length (upTo c xs)) xs ≡ upTo
 up-to-take c [] = refl
 up-to-take c (x ∷ xs) = by-test (eqb x c) (λ p. rw p) (λ p. rw p (ap (λ (r : List ℕ). x ∷ r) (up-to-take c xs)))
 
--- the first n bytes, where c stands behind n of them
+-- the first n bytes, if c follows them
 pub up-to-part : (c : ℕ) (xs : List ℕ) (n : ℕ) → length (upTo c xs) ≡ n → take n xs ≡ upTo c xs
 up-to-part c xs n h = rw (← h) (up-to-take c xs)
 
@@ -77,7 +77,7 @@ fields-all body = rw (le-leb 0 (length body) (omega arith))
 pub no-field : (body : List ℕ) (at : ℕ) → length body < at → fieldsFrom body at ≡ []
 no-field body at h = rw (lt-leb at (length body) h)
 
--- what c leads is where c stands
+-- what c leads begins where c is
 led-first : (xs : List ℕ) → length (upTo 44 xs) < length xs → ledBy 44 xs ≡ joined (drop (suc (length (upTo 44 xs))) xs)
 led-first [] h = absurd (omega arith)
 led-first (x ∷ xs) h = by-test (eqb x 44) (λ p. rw p) (λ p. rw p (led-first xs (omega (arith, rw p at h))))

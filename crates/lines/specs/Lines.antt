@@ -1,4 +1,4 @@
--- The lines of `tagedit`: how the input falls into lines, what a line says, and how an answer and what is held are said as lines.
+-- The lines of `tagedit`: how the input splits into lines, what a line says, and how an answer and the session's contents are written as lines.
 -- Assumes nothing.
 use Prim.Native.Nat.{ℕ}
 use Prim.Native.String.{String}
@@ -18,7 +18,7 @@ use Rattle.samtags.specs.Session.{Step, mask, dropCalls, cut}
 abbrev pub lineEnd : ℕ
 lineEnd = 10
 
--- one more byte in front of the first line; where there is none it is the last line, which lacks its LF
+-- one more byte in front of the first line; if there is no line, the byte is the last line, which has no LF
 abbrev pub pushed : ℕ → List (List ℕ) → List (List ℕ)
 pushed x [] = (x ∷ []) ∷ []
 pushed x (l ∷ ls) = (x ∷ l) ∷ ls
@@ -34,20 +34,20 @@ linesOf (x ∷ xs) = cond (eqb x lineEnd) ([] ∷ linesOf xs) (pushed x (linesOf
 abbrev pub hasMark : String → List ℕ → Bool
 hasMark mark line = sameBytes (take 2 line) (ascii mark)
 
--- what follows the mark
+-- the bytes after the mark
 abbrev pub bodyOf : List ℕ → List ℕ
 bodyOf line = drop 2 line
 
--- fields with commas between, of which there is at least one
+-- the fields between commas; there is at least one
 abbrev pub joined : List ℕ → List (List ℕ)
 joined body = upTo comma body ∷ ledBy comma body
 
--- each field is a plain decimal, leading zeros allowed, of at most so much
+-- each field is a plain decimal of at most `most`, leading zeros allowed
 unfoldable pub areNumbers : ℕ → List (List ℕ) → Bool
 unfolding isNumber value
 areNumbers most fields = every (λ f. isNumber f && leb (value f) most) fields
 
--- the numbers with commas between, or none of a bad line
+-- the numbers between commas, or `none` if the line is bad
 unfoldable pub numbersOf : ℕ → List ℕ → Option (List ℕ)
 unfolding areNumbers value
 numbersOf most body = cond (areNumbers most (joined body)) (some (map value (joined body))) none
@@ -57,7 +57,7 @@ unfoldable pub valuesOf : List ℕ → Option (List ℕ)
 unfolding numbersOf
 valuesOf line = cond (isEmpty (bodyOf line)) (some []) (numbersOf 255 (bodyOf line))
 
--- bases off the front and off the back: just two numbers
+-- bases off the front and off the back: exactly two numbers
 abbrev pub cutOf : List ℕ → Option Step
 cutOf [] = none
 cutOf (front ∷ []) = none
@@ -65,12 +65,12 @@ cutOf (front ∷ back ∷ []) = some (cut front back)
 cutOf (front ∷ back ∷ more ∷ ns) = none
 
 module _ {A B : Type 0} where
-  -- f of what there is, or d
+  -- f of the value if there is one, else d
   abbrev pub given : Option A → B → (A → B) → B
   given none d f = d
   given (some a) d f = f a
 
--- the step that a line asks for, or none of a bad line; a number is a u32
+-- the step that a line asks for, or `none` if the line is bad; a number is a u32
 unfoldable pub stepOf : List ℕ → Option Step
 unfolding numbersOf
 stepOf line =
@@ -79,7 +79,7 @@ stepOf line =
     (cond (hasMark "DR" line) (some (dropCalls ns))
     (cond (hasMark "CU" line) (cutOf ns) none)))
 
--- ---- what is said
+-- ---- what is written
 
 -- a line of the output
 abbrev pub lineOf : String → List ℕ → List ℕ
@@ -90,7 +90,7 @@ unfoldable pub answerLine : ℕ → List ℕ
 unfolding digits
 answerLine n = lineOf "AN" (digits n)
 
--- decimals with commas between
+-- decimals separated by commas
 unfoldable pub decimals : List ℕ → List ℕ
 unfolding digits
 decimals [] = []

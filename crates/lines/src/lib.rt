@@ -1,5 +1,5 @@
-// The lines of `tagedit`'s input, their marks and their fields: each is a part of the caller's own text. What a line lists is read by `operands`; lines of the
-// output are put by `printing`. A support crate: a function here may ask something of its caller (`requires`).
+// The lines of `tagedit`'s input, their marks and their fields: each is a part of the caller's own text. `operands` reads the numbers that a line
+// lists; `printing` writes the lines of the output. A support crate: its functions may have a `requires`.
 ghost use mathlib.Core.Path.{_≡_};
 ghost use mathlib.Core.List.{[], _∷_};
 ghost use Prim.Native.Nat.{_≤_};
@@ -8,7 +8,7 @@ ghost use Rattle.samtags.specs.Text.{upTo};
 ghost use Rattle.samtags.specs.Edits.{sameBytes};
 ghost use Rattle.lines.specs.Lines.{lineEnd, bodyOf};
 
-// From a place on, what stands before the next byte c, or all that is left.
+// From an index on, the bytes before the next byte c, or all that are left.
 pub fn up_to(text: &[u8], from: usize, c: u8) -> &[u8]
     requires { ⌜ from ≤ length (now text) ⌝ }
     ensures { λ r. ⌜ now r ≡ upTo c (drop from (now (text .entry))) ⌝ }
@@ -23,7 +23,7 @@ pub fn up_to(text: &[u8], from: usize, c: u8) -> &[u8]
     &text[from..end]
 }
 
-// The line that begins at a place, without its LF; the last line may have none.
+// The line that begins at an index, without its LF; the last line may have none.
 pub fn next_line(input: &[u8], at: usize) -> &[u8]
     requires { ⌜ at ≤ length (now input) ⌝ }
     ensures { λ r. ⌜ now r ≡ upTo lineEnd (drop at (now (input .entry))) ⌝ }
@@ -31,7 +31,7 @@ pub fn next_line(input: &[u8], at: usize) -> &[u8]
     up_to(input, at, b'\n')
 }
 
-// The line begins with the two bytes of a mark.
+// Whether the line begins with the two bytes of a mark.
 pub fn has_mark(line: &[u8], a: u8, b: u8) -> bool
     ensures { λ r. ⌜ r ≡ sameBytes (take 2 (now (line .entry))) (a ∷ b ∷ []) ⌝ }
 {
@@ -44,7 +44,7 @@ pub fn has_mark(line: &[u8], a: u8, b: u8) -> bool
     line[1] == b
 }
 
-// What follows the mark; nothing where the line is shorter than one.
+// The bytes after the mark; none if the line is shorter than a mark.
 pub fn body_of(line: &[u8]) -> &[u8]
     ensures { λ r. ⌜ now r ≡ bodyOf (now (line .entry)) ⌝ }
 {

@@ -1,6 +1,5 @@
-// A session's masking step, on lengths that are in order. The tag is edited first: what can be refused is refused before a byte is written, and a refusal
-// leaves the rows as they were. Then SEQ becomes what it is after the step. A support crate: a function here may ask something of its caller (`requires`);
-// the public calls stand above.
+// A session's masking step, on lengths that are in order. The tag is edited first: every refusal comes before a byte is written, and leaves the rows
+// unchanged. Then the new SEQ is written. A support crate: its functions may have a `requires`; the public calls are in `session`.
 ghost use mathlib.Core.Path.{_≡_};
 ghost use Prim.Native.Nat.{_≤_};
 ghost use lib.ListN.{length, take};
@@ -12,7 +11,7 @@ use lent::Tagged;
 use stepping::Lengths;
 use stepping::Stepped;
 
-// SEQ becomes `after`, as long as it is.
+// SEQ becomes `after`, which is as long as SEQ.
 pub fn mask_to(
     seq: &mut [u8],
     mm: &mut [u8],
@@ -47,7 +46,7 @@ pub fn mask_to(
     Stepped::Done(stepping::lengths_now(n, end, kept, has_ml, lengths))
 }
 
-// SEQ, copied to the front of a row, with N at the places; those past its end mask nothing of it.
+// Copies SEQ to the front of a row, with N at the places. Places past SEQ's end mask nothing of it.
 fn mask_copy(seq: &[u8], places: &[u32], row: &mut [u8])
     requires { ⌜ (length (now seq) ≤ 16000) × (length (now seq) ≤ length (now row)) ⌝ }
     ensures { λ _. ⌜ take (length (now (seq .entry))) (now (row .exit)) ≡ masked (among (now (places .entry))) (now (seq .entry)) ⌝ }
@@ -56,7 +55,7 @@ fn mask_copy(seq: &[u8], places: &[u32], row: &mut [u8])
     changing::mark_places(places, row, b'N');
 }
 
-// The mask of a session whose lengths are in order, with a row for SEQ as it will be, whatever stands in it.
+// The masking step of a session whose lengths are in order. `after` is a row for the new SEQ, with any contents.
 pub fn mask_with(
     seq: &mut [u8],
     mm: &mut [u8],

@@ -1,4 +1,4 @@
--- What one entry and one group more do to the counts of a walk that needs no places.
+-- Laws of a walk that needs no places: its counts after one more entry and after one more group.
 -- Assumes nothing.
 use mathlib.Core.Path.{_≡_, refl, _∙_, ap, sym}
 use Prim.Native.Nat.{_+_, _-_, _<_, _≤_, min, suc, ℕ}
@@ -77,7 +77,7 @@ count-one n ps p vs (done r) =
     let more : n + suc (length (callsIn (r .0))) ≡ n + 1 + length (callsIn (r .0)) = omega arith in
     rw (calls-bare ps (call p vs ∷ r .0)) (λ j. done (more j, r .1))
 
--- what the reading from a separator and a value on comes to over so many places, after n calls
+-- the outcome of reading from a separator and a value on, over so many places, after n calls
 abbrev pub countedFrom : ℕ → List ℕ → List ℕ → ℕ → ℕ → ℕ → List ℕ → Outcome (ℕ × List ℕ)
 countedFrom k t ml n used at places = onDone (spotsCounted n) (readSpots k nowhere (ledBy 44 (upTo 59 (drop at t))) places (drop used ml))
 

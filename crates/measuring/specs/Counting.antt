@@ -1,4 +1,4 @@
--- What a walk that needs no places answers, step by step: these are the contracts of support functions, and no one needs to believe them.
+-- The answer of a walk that needs no places, step by step. These are contracts of support functions; no promise rests on them.
 -- Assumes nothing.
 use Prim.Native.Nat.{ℕ, _+_, _≤_}
 use mathlib.Core.Path.{_≡_}
@@ -20,7 +20,7 @@ countedRefusal Unsure = refusal 0
 
 -- ---- what is counted
 
--- how many calls there are after those of a group's spots, and what is left of ML
+-- the number of calls after those of a group's spots, and the rest of ML
 abbrev pub spotsCounted : ℕ → List Spot × List ℕ → ℕ × List ℕ
 spotsCounted n r = (n + length (callsIn (r .0)), r .1)
 
@@ -32,13 +32,13 @@ abbrev pub callsOf : List Group → ℕ
 callsOf [] = 0
 callsOf (g ∷ gs) = length (callsIn (g .spots)) + callsOf gs
 
--- how many groups and calls there are, after g groups with n calls
+-- the number of groups and of calls, counted on from g groups with n calls
 abbrev pub groupsCounted : ℕ → ℕ → List Group → ℕ × ℕ
 groupsCounted g n gs = (g + length gs, n + callsOf gs)
 
--- ---- what is answered
+-- ---- the answers
 
--- o is what the answer says of the entries from the separator at c on; the places are not needed, so it is never unsure
+-- the answer agrees with o, the outcome of the entries from the separator at c on; the places are not needed, so it is never `Unsure`
 abbrev pub EntriesCounted : List ℕ → List ℕ → Count → Outcome (List Spot × List ℕ) → Counted → Type 0
 EntriesCounted text ml c o (Refused r) = o ≡ refused r
 EntriesCounted text ml c o Unsure = ⊥
@@ -46,7 +46,7 @@ EntriesCounted text ml c o (To d) =
     (d .at ≡ c .at + length (upTo 59 (drop (c .at) text))) × (d .used ≤ length ml) × (d .group ≡ c .group) × (d .calls ≤ d .at)
     × (onDone (spotsCounted (c .calls)) o ≡ done (d .calls, drop (d .used) ml))
 
--- o is what the answer says of the group at c; it is unsure only where calls are marked
+-- the answer agrees with o, the outcome of the group at c; it is `Unsure` only if calls are marked
 abbrev pub GroupCounted : Bool → List ℕ → List ℕ → Count → Outcome (Group × List ℕ) → Counted → Type 0
 GroupCounted marked text ml c o (Refused r) = o ≡ refused r
 GroupCounted marked text ml c o Unsure = marked ≡ true
@@ -54,7 +54,7 @@ GroupCounted marked text ml c o (To d) =
     (d .at ≡ c .at + length (upTo 59 (drop (c .at) text)) + 1) × (d .used ≤ length ml) × (d .group ≡ c .group + 1) × (d .calls ≤ d .at)
     × (onDone (groupCounted (c .calls)) o ≡ done (d .calls, drop (d .used) ml))
 
--- o is what the answer says of all groups
+-- the answer agrees with o, the outcome of all groups
 abbrev pub TagCounted : Bool → Outcome (List Group) → Counted → Type 0
 TagCounted marked o (Refused r) = o ≡ refused r
 TagCounted marked o Unsure = marked ≡ true

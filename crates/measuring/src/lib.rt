@@ -1,6 +1,5 @@
-// A first walk over a tag that needs no places. Whether a tag is refused with 3 to 9 depends on how many bases of a group's letter SEQ has, not on where
-// they stand: so they are counted once for each group, and no entry's base is looked for. A support crate: a function here may ask something of its
-// caller (`requires`).
+// A first walk over a tag that needs no places. Whether a tag is refused with 3 to 9 depends on how many bases of a group's letter SEQ has, not on
+// their places. So they are counted once for each group, and no entry's base is looked up. A support crate: its functions may have a `requires`.
 ghost use mathlib.Core.Path.{_≡_};
 ghost use mathlib.Core.Bool.{Bool, cond, false};
 ghost use mathlib.Core.List.{List, []};
@@ -15,7 +14,7 @@ ghost use Rattle.measuring.specs.Counting.{countedRefusal, EntriesCounte
 use lent::Refusal;
 use numbers::Skip;
 
-// Where a walk stands: the byte of the text and the value of ML that come next, and how many groups and calls were passed.
+// The state of a walk: the next byte of the text, the next value of ML, and how many groups and calls were passed.
 pub struct Count {
     pub at: usize,
     pub used: usize,
@@ -23,8 +22,8 @@ pub struct Count {
     pub calls: usize,
 }
 
-// How far the walk came, or why the tag is refused. `Unsure` where calls are to be dropped and a group may lose none: whether that is refused, with 10,
-// before what stands further right, only the places can tell.
+// How far the walk came, or why the tag is refused. `Unsure` if calls are to be dropped and a group's header does not allow it. Then only the places
+// tell whether the tag is refused with 10 before an error further right.
 pub enum Counted {
     To(Count),
     Refused(Refusal),
@@ -32,7 +31,7 @@ pub enum Counted {
 }
 
 impl Counted {
-    // The refusal, passed on whole.
+    // The refusal, unchanged. The other cases give the number 0.
     pub fn refusal(self) -> Refusal
         ensures { λ r. ⌜ r ≡ countedRefusal self ⌝ }
     {
@@ -44,7 +43,7 @@ impl Counted {
     }
 }
 
-// A group's entries, from the separator at the cursor on, up to the ';' that closes the group, over as many bases as there are.
+// Counts a group's entries, from the separator at the cursor on, up to the ';' that closes the group. SEQ has `all` bases of the group's kind.
 fn count_entries(text: &[u8], ml: &[u8], values: usize, all: usize, start: Count) -> Counted
     requires { ⌜ (length (now text) ≤ 65536) × (length (now ml) ≤ 65536) × (all ≤ 16000) ⌝ }
     requires { ⌜ start .at + length (upTo semicolon (drop (start .at) (now text))) < length (now text) ⌝ }
@@ -84,7 +83,7 @@ fn count_entries(text: &[u8], ml: &[u8], values: usize, all: usize, start: Count
     })
 }
 
-// The group that begins at the cursor, up to and with its ';'. `marked`: some calls are to be dropped.
+// Counts the group that begins at the cursor, up to and including its ';'. `marked`: some calls are to be dropped.
 fn count_group(
     seq: &[u8],
     text: &[u8],
@@ -131,7 +130,7 @@ fn count_group(
     })
 }
 
-// All groups of a text that ends in ';'; after the last no value of ML may be left over.
+// Counts all groups of a text that ends in ';'. After the last one no value of ML may be left over.
 fn count_groups(seq: &[u8], text: &[u8], ml: &[u8], has_ml: bool, marked: bool) -> Counted
     requires { ⌜ (length (now seq) ≤ 16000) × (length (now text) ≤ 65536) × (length (now ml) ≤ 65536) × (lastOr 0 (now text) ≡ semicolon) ⌝ }
     ensures { λ r. ⌜ ((named : ℕ → Bool) → (marked ≡ false → named ≡ nowhere)
@@ -156,7 +155,7 @@ fn count_groups(seq: &[u8], text: &[u8], ml: &[u8], has_ml: bool, marked: bool) 
     Counted::To(c)
 }
 
-// A whole tag: everything that can be refused but 10 and the room, and how many groups and calls there are. Where there is no ML its row is empty.
+// Checks a whole tag for 3 to 9, and counts its groups and calls. Without ML the ML row is empty.
 pub fn count_tag(seq: &[u8], text: &[u8], ml: &[u8], has_ml: bool, marked: bool) -> Counted
     requires { ⌜ (length (now seq) ≤ 16000) × (length (now text) ≤ 65536) × (length (now ml) ≤ 65536) × (cond «has_ml» (now ml) [] ≡ now ml) ⌝ }
     ensures { λ r. ⌜ ((named : ℕ → Bool) → (marked ≡ false → named ≡ nowhere)

@@ -1,4 +1,4 @@
--- The chemistry as a caller names it that knows only numbers; any other number is refused with 13.
+-- The chemistry by number, for callers that have no enum. Any other number is refused with 13.
 -- Assumes nothing.
 use Prim.Native.Nat.{ℕ}
 use mathlib.Core.Bool.{cond}
@@ -13,7 +13,7 @@ use Rattle.modes.specs.declared.Mode.the-variants.{Known, Refused}
 abbrev pub modeOf : ℕ → Outcome MethylationMode
 modeOf n = cond (eqb n 0) (done Disabled) (cond (eqb n 1) (done EmSeq) (cond (eqb n 2) (done Taps) (refuse 13)))
 
--- each case of `Mode` with the scope's number and value: 0 and the chemistry, or the refusal
+-- `Mode` as an outcome: done with the chemistry, or the refusal
 abbrev pub modeSays : Mode → Outcome MethylationMode
 modeSays (Known m) = done m
 modeSays (Refused r) = refused r

@@ -1,16 +1,16 @@
-// The chemistry as a caller names it that knows only numbers. A support crate of the C library.
+// The chemistry by number, for callers that have no enum. A support crate of the C library.
 ghost use mathlib.Core.Path.{_≡_};
 ghost use Rattle.modes.specs.Modes.{modeOf, modeSays};
 use lent::Refusal;
 use pattern::MethylationMode;
 
-// What a number says: a chemistry, or that it names none.
+// What a number says: a chemistry, or a refusal if it names none.
 pub enum Mode {
     Known(MethylationMode),
     Refused(Refusal),
 }
 
-// The chemistry with this number; 13 where there is none.
+// The chemistry with this number; 13 if there is none.
 pub fn mode_of(number: u8) -> Mode
     ensures { λ r. ⌜ modeSays r ≡ modeOf number ⌝ }
 {

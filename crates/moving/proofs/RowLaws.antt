@@ -1,4 +1,4 @@
--- A row that is written from the left and read ahead of what was written: what is still to be read stands as it did.
+-- A row that is written from the left while it is read further right: what is still to be read is unchanged.
 -- Assumes nothing.
 use mathlib.Core.Path.{_≡_, refl, sym, ap, _∙_}
 use Prim.Native.Nat.{ℕ, suc, _+_, _-_, _≤_, _<_}
@@ -17,7 +17,7 @@ module _ {A : Type 0} where
       let later : drop (n + (i - n)) l ≡ drop (n + (i - n)) m = sym (drop-drop (i - n) n l) ∙ ap (drop (i - n)) e ∙ drop-drop (i - n) n m in
       rw q at later
 
-  -- a byte that stands at a place from which two rows are the same
+  -- a byte at a place from which two rows are the same
   pub same-at : (l m : List A) (n i : ℕ) (d : A) → n ≤ i → drop n l ≡ drop n m → getD l i d ≡ getD m i d
   same-at l m n i d h e =
       let q : n + (i - n) ≡ i = omega arith in
@@ -30,7 +30,7 @@ module _ {A : Type 0} where
   drop-stored l n [] i h = refl
   drop-stored l n (x ∷ xs) i h = drop-stored (set l n x) (suc n) xs i (omega arith) ∙ drop-set-lt i l n x (omega arith)
 
-  -- what is still to be read, as it stands in the part of the row that begins where the written part ends
+  -- what is still to be read, in the part of the row that begins where the written part ends
   pub ahead-of : (l m : List A) (e i : ℕ) → e ≤ i → drop i l ≡ drop i m → drop (i - e) (drop e l) ≡ drop i m
   ahead-of l m e i h q =
       let z : e + (i - e) ≡ i = omega arith in
@@ -44,7 +44,7 @@ module _ {A : Type 0} where
       ap (drop (e + i)) (part-back l e ys) ∙ sym (drop-drop i e (take e l ++ ys)) ∙ ap (drop i) (drop-at (take e l) ys e front) ∙ q ∙ drop-drop i e l
       ∙ same
 
-  -- a run moves left: byte i of it, which stands in the row as it did, is stored
+  -- a run moves left: byte i of it, which is unchanged in the row, is stored
   module _ (row₀ row : List A) (from to n i : ℕ) (d : A) (low : i < n) (fits : from + n ≤ length row₀)
       (ahead : drop (from + i) row ≡ drop (from + i) row₀) where
     pub move-turn : sets row (to + i) (drop i (take n (drop from row₀)))

@@ -1,4 +1,4 @@
--- A number that is read digit by digit and never passes a bound; and the digits of a number, stored one by one.
+-- Reading a number digit by digit without passing a bound, and storing the digits of a number one by one.
 -- Assumes nothing.
 use mathlib.Core.Path.{_≡_, refl}
 use Prim.Native.Nat.{_%_, _*_, _+_, _-_, _/_, _<_, _≤_, min, suc, zero, ℕ}

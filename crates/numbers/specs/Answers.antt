@@ -1,4 +1,4 @@
--- What the cases of a read skip mean: the scope's number, and what was asked for.
+-- The cases of `Skip` as outcomes: done with the skip, or the refusal.
 -- Assumes nothing.
 use Prim.Native.Nat.{ℕ}
 use Rattle.lent.specs.Outcome.{Outcome, refused, done, refusal}

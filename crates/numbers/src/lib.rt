@@ -1,4 +1,4 @@
-// Decimals in a text: a skip is read, a number is written. A support crate: a function here may ask something of its caller (`requires`).
+// Decimal numbers in a text: reads a skip, writes a number. A support crate: its functions may have a `requires`.
 ghost use mathlib.Core.Path.{_≡_};
 ghost use Prim.Native.Nat.{_+_, _-_, _*_, _≤_, min};
 ghost use lib.ListN.{length, set};
@@ -15,7 +15,7 @@ pub enum Skip {
 }
 
 impl Skip {
-    // The refusal, passed on whole.
+    // The refusal, unchanged. `Of` gives the number 0.
     pub fn refusal(self) -> Refusal
         ensures { λ r. ⌜ r ≡ skipRefusal self ⌝ }
     {
@@ -26,7 +26,7 @@ impl Skip {
     }
 }
 
-// One digit more, and never past `most`.
+// One more digit, but never above `most`.
 fn with_digit(n: usize, digit: u8, most: usize) -> usize
     requires { ⌜ (n ≤ most) × (most ≤ 4294967296) × (48 ≤ digit) ⌝ }
     ensures { λ r. ⌜ r ≡ min most (10 * n + (digit - 48)) ⌝ }
@@ -38,7 +38,7 @@ fn with_digit(n: usize, digit: u8, most: usize) -> usize
     m
 }
 
-// Reads a plain decimal of any length. A number past `most` is given as `most`, so that none is too large to be read.
+// Reads a plain decimal of any length. A number above `most` is read as `most`, so that no number is too large to read.
 pub fn read_skip(field: &[u8], most: usize) -> Skip
     requires { ⌜ most ≤ 4294967296 ⌝ }
     ensures { λ r. ⌜ skipSays r ≡ need (isNumber (now (field .entry))) 6 (done (min most (value (now (field .entry))))) ⌝ }
@@ -62,7 +62,7 @@ pub fn read_skip(field: &[u8], most: usize) -> Skip
     Skip::Of(n)
 }
 
-// Puts a byte at a place if the room reaches so far. So the same code that writes into a room measures over an empty one.
+// Writes a byte at an index if the row is long enough. So the same code writes into a row and, with an empty row, measures.
 pub fn put(out: &mut [u8], at: usize, b: u8)
     ensures { λ _. ⌜ now (out .exit) ≡ set (now (out .entry)) at b ⌝ }
 {
@@ -71,7 +71,7 @@ pub fn put(out: &mut [u8], at: usize, b: u8)
     }
 }
 
-// Writes the digits of n from a place on, as far as the room reaches, and gives the place after them.
+// Writes the digits of n from an index on, as far as the room reaches, and returns the index after them.
 fn put_digits(out: &mut [u8], at: usize, n: usize) -> usize
     requires { ⌜ at ≤ 4294967296 ⌝ }
     ensures { λ r. ⌜ (r ≡ at + length (digits n)) × (now (out .exit) ≡ sets (now (out .entry)) at (digits n)) ⌝ }
@@ -85,7 +85,7 @@ fn put_digits(out: &mut [u8], at: usize, n: usize) -> usize
     next + 1
 }
 
-// Writes n in decimal from a place on, as far as the room reaches, and gives the place after it. Most skips have one digit, for which no call is made.
+// Writes n in decimal from an index on, as far as the room reaches, and returns the index after it. Most skips have one digit; they need no call.
 pub fn put_decimal(out: &mut [u8], at: usize, n: usize) -> usize
     requires { ⌜ at ≤ 4294967296 ⌝ }
     ensures { λ r. ⌜ (r ≡ at + length (digits n)) × (now (out .exit) ≡ sets (now (out .entry)) at (digits n)) ⌝ }

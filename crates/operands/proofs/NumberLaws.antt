@@ -1,4 +1,4 @@
--- A field that is read as a number of at most so much, and the fields of a line one by one.
+-- Reading a field as a number up to a bound, and reading the fields of a line one by one.
 -- Assumes nothing.
 use mathlib.Core.Path.{_≡_, refl, sym, ap, _∙_}
 use Prim.Native.Nat.{ℕ, _+_, _≤_, _<_, min}

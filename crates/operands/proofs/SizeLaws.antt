@@ -1,4 +1,4 @@
--- How long things are: the lines of an input, a line that asks for a step, decimals, and the values that an ML line lists.
+-- Lengths: the lines of an input, a line that asks for a step, decimals, and the values that an ML line lists.
 -- Assumes nothing.
 use mathlib.Core.Path.{_≡_, refl, ap}
 use Prim.Native.Nat.{ℕ, suc, _+_, _-_, _*_, _≤_, _<_}

@@ -1,4 +1,4 @@
--- What the cases of each answer mean, and the contracts of the functions that read a line: no one needs to believe these.
+-- The cases of each answer, and the contracts of the functions that read a line. No promise rests on them.
 -- Assumes nothing.
 use Prim.Native.Nat.{ℕ}
 use mathlib.Core.Path.{_≡_}
@@ -23,7 +23,7 @@ abbrev pub numberSays : Number → Option ℕ
 numberSays (number.Of n) = some n
 numberSays number.Bad = none
 
--- a plain decimal of at most so much
+-- a plain decimal of at most `most`
 abbrev pub isNumberTo : ℕ → List ℕ → Bool
 isNumberTo most field = isNumber field && leb (value field) most
 
@@ -38,7 +38,7 @@ endsSays ends.Bad = none
 abbrev pub valuesIn : List ℕ → Option (List ℕ)
 valuesIn body = cond (isEmpty body) (some []) (numbersOf 255 body)
 
--- the row with the values at its front, as far as it reaches
+-- the answer agrees with o; the values are at the front of the row, as far as it reaches
 abbrev pub ValuesPut : Option (List ℕ) → Values → List ℕ → List ℕ → Type 0
 ValuesPut o (values.Of n) row row′ = (vs : List ℕ) × (o ≡ some vs) × (n ≡ length vs) × (row′ ≡ sets row 0 vs)
 ValuesPut o values.Bad row row′ = o ≡ none

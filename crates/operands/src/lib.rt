@@ -1,5 +1,5 @@
-// The numbers that a line of `tagedit`'s input lists: plain decimals with commas between, leading zeros allowed. One that is no decimal, or too large, makes
-// its line bad. A support crate: a function here may ask something of its caller (`requires`).
+// The numbers that a line of `tagedit`'s input lists: plain decimals separated by commas, leading zeros allowed. A field that is no decimal, or too
+// large, makes its line bad. A support crate: its functions may have a `requires`.
 ghost use mathlib.Core.Path.{_≡_};
 ghost use mathlib.Core.Bool.{true};
 ghost use mathlib.Core.List.{map};
@@ -18,7 +18,7 @@ pub enum Number {
     Bad,
 }
 
-// How many values were put, or that their line is bad.
+// How many values were written, or that their line is bad.
 pub enum Values {
     Of(usize),
     Bad,
@@ -30,7 +30,7 @@ pub enum Ends {
     Bad,
 }
 
-// A plain decimal of at most so much. It is read up to one more, so that none is too large to be read.
+// Reads a plain decimal of at most `most`. It is read up to `most` + 1, so that no number is too large to read.
 pub fn read_number(field: &[u8], most: usize) -> Number
     requires { ⌜ most ≤ 4294967295 ⌝ }
     ensures { λ r. ⌜ numberSays r ≡ numberTo most (now (field .entry)) ⌝ }
@@ -45,7 +45,7 @@ pub fn read_number(field: &[u8], most: usize) -> Number
     Number::Of(n)
 }
 
-// Puts a byte at each listed place that the row has, and answers whether the places are numbers of 32 bits. Where they are not, the row is of no use.
+// Writes a byte at each listed place that the row has, and answers whether the places are numbers of 32 bits. If not, nothing is promised about the row.
 pub fn put_listed(body: &[u8], row: &mut [u8], b: u8) -> bool
     requires { ⌜ length (now body) ≤ 4294967295 ⌝ }
     ensures { λ r. ⌜ (r ≡ areNumbers 4294967295 (joined (now (body .entry))))
@@ -64,7 +64,7 @@ pub fn put_listed(body: &[u8], row: &mut [u8], b: u8) -> bool
     true
 }
 
-// Puts the values of an ML line, of at most 255 each, into the front of a row. An empty body lists none.
+// Writes the values of an ML line, each at most 255, to the front of a row. An empty body lists none.
 pub fn put_values(body: &[u8], row: &mut [u8]) -> Values
     requires { ⌜ length (now body) ≤ 4294967295 ⌝ }
     ensures { λ r. ⌜ ValuesPut (valuesIn (now (body .entry))) r (now (row .entry)) (now (row .exit)) ⌝ }
@@ -87,7 +87,7 @@ pub fn put_values(body: &[u8], row: &mut [u8]) -> Values
     Values::Of(n)
 }
 
-// Just two numbers of 32 bits.
+// Reads exactly two numbers of 32 bits.
 pub fn read_ends(body: &[u8]) -> Ends
     requires { ⌜ length (now body) ≤ 4294967295 ⌝ }
     ensures { λ r. ⌜ endsSays r ≡ given (numbersOf 4294967295 (now (body .entry))) none cutOf ⌝ }

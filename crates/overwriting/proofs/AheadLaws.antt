@@ -1,4 +1,4 @@
--- An entry and a group that are put into the rows they were read from: from where what was put ends the rows are as they were.
+-- Writing an entry and a group into the rows they were read from: past what is written the rows are unchanged.
 -- Assumes nothing.
 use mathlib.Core.Path.{_≡_, _∙_, ap, refl, subst}
 use Prim.Native.Nat.{ℕ, _+_, _-_, _≤_}

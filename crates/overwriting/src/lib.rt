@@ -1,7 +1,6 @@
-// One walk over a tag from the left, which writes the tag as the edit leaves it into the rows that it reads. What is written never passes what is
-// still to be read, so each entry, header and value is read before something comes to lie over it. A refusal may come after the first bytes are
-// written: whoever calls has measured the tag before, and then none comes. A support crate: a function here may ask something of its caller
-// (`requires`).
+// One walk over a tag from the left, which writes the tag as the edit leaves it into the rows that it reads. Writing never overtakes reading, so each
+// entry, header and value is read before it is overwritten. A refusal may come after the first bytes are written; so the caller measures the tag
+// first, and then no refusal comes. A support crate: its functions may have a `requires`.
 ghost use mathlib.Core.Path.{_≡_};
 ghost use Prim.Native.Nat.{_+_, _≤_, _<_};
 ghost use lib.ListN.{length, take, drop};
@@ -24,8 +23,8 @@ use lent::Refusal;
 use places::Place;
 use strides::Window;
 
-// Puts a call as the edit leaves it: listed, with its values, which stand at `used` in the row; or dropped, and then its base still counts in the
-// next skip; or gone with its base.
+// Writes a call as the edit leaves it: listed with its values, which are at `used` in the row; or dropped, so that its base counts in the next skip;
+// or gone with its base.
 fn put_entry(
     after: &[u8],
     marks: &[u8],
@@ -67,7 +66,7 @@ fn put_entry(
     }
 }
 
-// A group's entries, from the separator at the cursor on, up to the ';' that closes the group.
+// Edits a group's entries, from the separator at the cursor on, up to the ';' that closes the group.
 fn edit_entries(
     seq: &[u8],
     after: &[u8],
@@ -110,7 +109,7 @@ fn edit_entries(
     Edited::To(Cursor::behind(at, used, pen))
 }
 
-// The group that begins at a byte of the text, up to and with its ';', written from the rows' starts on.
+// Edits the group that begins at a byte of the text, up to and including its ';', and writes it from the rows' starts on.
 fn edit_group(
     seq: &[u8],
     after: &[u8],
@@ -158,8 +157,8 @@ fn edit_group(
     })
 }
 
-// All groups of a text that ends in ';': each is written where the last one ended, into the rows from there on; after the last no value of ML may be
-// left over.
+// Edits all groups of a text that ends in ';'. Each is written where the last one ended, into the rows from there on. After the last group no value
+// of ML may be left over.
 pub fn edit_groups(
     seq: &[u8],
     after: &[u8],
@@ -175,7 +174,7 @@ pub fn edit_groups(
         (readGroups «has_ml» (isMarked (now (marks .entry))) (now (seq .entry)) (closedBy semicolon (now (text .entry))) (now (ml .entry)))
         (now (text .entry)) (now (ml .entry)) r (now (text .exit)) (now (ml .exit)) ⌝ }
 {
-    // Looked at once, for all entries of all groups: a drop leaves SEQ as it is.
+    // SEQ and `after` are compared once, for all entries of all groups; for a drop they are the same.
     let window = windows::window_of(seq, after, lo);
     let mut c = Cursor {
         at: 0,

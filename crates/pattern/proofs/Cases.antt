@@ -1,4 +1,4 @@
--- The same letter in any case: what its two cases have in common, which is all bits but one; and either byte may come first.
+-- The same letter in upper or lower case: its two cases share all bits but one. The two bytes of the comparison may come in either order.
 -- Assumes nothing.
 use mathlib.Core.Path.{_≡_, _∙_, ap}
 use Prim.Native.Nat.{ℕ, _+_, _*_, _-_, _/_, _%_, _≤_, _<_}
@@ -26,7 +26,7 @@ by-upper b below small past =
     (λ l. below (leb-false 97 b l) (rw l))
 
 module _ (a b : ℕ) where
-  -- a test of two numbers that are equal just where the bytes are the same
+  -- a test of two numbers that are equal exactly when the bytes are the same
   same-test : (c d : ℕ) → (c ≡ d → upper a ≡ upper b) × (upper a ≡ upper b → c ≡ d) → eqb c d ≡ sameInAnyCase a b
   unfolding sameInAnyCase
   same-test c d both =

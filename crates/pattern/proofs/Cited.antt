@@ -1,4 +1,4 @@
--- What each public call is proved to meet gives its proposition of specs/Contracts, which theorems take.
+-- The contract that the kit makes of a public call's `ensures` gives the call's proposition of specs/Contracts. Theorems start from that proposition.
 -- Assumes nothing.
 use Rattle.lent.proofs.Cited.{Gives}
 use Rattle.pattern.specs.Contracts.{Uppercases, ComparesInAnyCase, FindsPattern, NamesBases, NamesLetter, NamesSign, TellsEnabled}

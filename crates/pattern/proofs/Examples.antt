@@ -11,7 +11,7 @@ upper-case : (upper 97 ≡ 65) × (upper 122 ≡ 90) × (upper 96 ≡ 96) × (up
 unfolding upper
 upper-case = (refl, refl, refl, refl, refl, refl)
 
--- 'c' is 'C' in any case; '{' is not '[', which stands 32 before it
+-- 'c' is 'C' if case is ignored; '{' is not '[', which is 32 below it
 any-case : (sameInAnyCase 99 67 ≡ true) × (sameInAnyCase 67 71 ≡ false) × (sameInAnyCase 123 91 ≡ false)
 unfolding sameInAnyCase
 any-case = (refl, refl, refl)

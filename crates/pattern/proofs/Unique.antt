@@ -1,4 +1,4 @@
--- Each public call's contract settles its answer: two answers that meet it are equal.
+-- Each public call's contract determines its answer: two answers that meet the contract are equal.
 -- Assumes nothing.
 use mathlib.Core.Path.{_≡_}
 use Prim.Native.Nat.{ℕ}

@@ -1,5 +1,5 @@
--- What each public call promises: one proposition for a call, over its arguments and its answer. The call's `ensures` cites it, and every theorem
--- about the call takes it.
+-- The promise of each public call: one proposition per call, about its arguments and its answer. The call's `ensures` cites it, and every theorem
+-- about the call uses it.
 -- Assumes nothing.
 use mathlib.Core.Path.{_≡_}
 use Prim.Native.Nat.{ℕ}
@@ -14,11 +14,11 @@ use Rattle.pattern.specs.declared.Bases.{Bases}
 abbrev pub Uppercases : ℕ → ℕ → Type 0
 Uppercases b r = r ≡ upper b
 
--- `eq_ignore_ascii_case`: two bytes, and whether they are the same in any case
+-- `eq_ignore_ascii_case`: two bytes, and whether they are the same apart from case
 abbrev pub ComparesInAnyCase : ℕ → ℕ → Bool → Type 0
 ComparesInAnyCase a b r = r ≡ sameInAnyCase a b
 
--- `from_read_flags`: a read's SAM flags, and how the read shows conversions
+-- `from_read_flags`: a read's SAM flags, and the read's pattern
 abbrev pub FindsPattern : ℕ → ConversionPattern → Type 0
 FindsPattern flags r = r ≡ patternOf flags
 
@@ -34,6 +34,6 @@ NamesLetter p r = r ≡ letterOf p
 abbrev pub NamesSign : ConversionPattern → ℕ → Type 0
 NamesSign p r = r ≡ signOf p
 
--- `is_enabled`: a chemistry, and whether one is chosen
+-- `is_enabled`: a chemistry, and whether it is enabled
 abbrev pub TellsEnabled : MethylationMode → Bool → Type 0
 TellsEnabled m r = r ≡ isEnabled m

@@ -1,4 +1,4 @@
--- The two conversion patterns, as SAM's flags give them, with their bases, group letter and strand sign; and whether a chemistry is chosen.
+-- The two conversion patterns: the SAM flags that give them, their bases, group letter and strand sign. Also whether a chemistry is chosen.
 -- Assumes nothing.
 use Prim.Native.Nat.{ℕ, _/_, _%_}
 use mathlib.Core.Bool.{Bool, true, false, cond}

@@ -1,12 +1,12 @@
-// Case of a byte, how a read shows conversions, and the chemistry: port step 1.
+// The upper case of a byte, the conversion pattern of a read, and the chemistry: port step 1.
 //
-// Names are the Rust's. No function here asks anything of its caller, and each contract is one proposition of specs/Contracts.
+// The names are those of the Rust code. No function here has a `requires`. Each contract is one proposition of specs/Contracts.
 ghost use Rattle.pattern.specs.Contracts.{Uppercases, ComparesInAnyCase, FindsPattern, NamesBases, NamesLetter, NamesSign, TellsEnabled};
 
-// All bits but the one that tells a letter's cases apart.
+// All bits except the one that differs between lower and upper case.
 const NO_CASE: u8 = 0xDF;
 
-// An ASCII letter in upper case; any other byte as it is.
+// An ASCII letter in upper case; any other byte unchanged.
 pub fn to_ascii_uppercase(b: u8) -> u8
     ensures { λ r. ⌜ Uppercases b r ⌝ }
 {
@@ -19,7 +19,7 @@ pub fn to_ascii_uppercase(b: u8) -> u8
     b - 32
 }
 
-// The two bytes are the same letter in any case, or the same byte. Where many bytes are held against one letter, each is masked and compared once.
+// Whether the two bytes are the same letter in upper or lower case, or the same byte. When many bytes are compared with one letter, each is masked and compared once.
 pub fn eq_ignore_ascii_case(a: u8, b: u8) -> bool
     ensures { λ r. ⌜ ComparesInAnyCase a b r ⌝ }
 {
@@ -40,7 +40,7 @@ pub enum ConversionPattern {
     GToA,
 }
 
-// A pattern's three bases: the reference base that marks an informative place, and what a read shows there unconverted and converted.
+// A pattern's three bases: the reference base that marks an informative place, and the bases that a read shows there if unconverted and if converted.
 pub struct Bases {
     pub reference: u8,
     pub unconverted: u8,
@@ -50,7 +50,7 @@ pub struct Bases {
 impl ConversionPattern {
     // SAM's flag "the last segment in the template": the read is an R2.
     pub const LAST_SEGMENT: u16 = 0x80;
-    // A call on the strand that SEQ shows, and one on the strand opposite to it, as an MM header's second byte says it.
+    // The second byte of an MM header: a call on the strand that SEQ shows, or a call on the opposite strand.
     pub const SAME_STRAND: u8 = b'+';
 
     pub const OPPOSITE_STRAND: u8 = b'-';
@@ -105,7 +105,7 @@ impl ConversionPattern {
     }
 }
 
-// The chemistry, which says whether an unconverted or a converted base speaks for methylation.
+// The chemistry. It decides whether an unconverted or a converted base is evidence for methylation.
 pub enum MethylationMode {
     Disabled,
     EmSeq,
@@ -113,7 +113,7 @@ pub enum MethylationMode {
 }
 
 impl MethylationMode {
-    // Some chemistry is chosen.
+    // Whether a chemistry is chosen.
     pub fn is_enabled(self) -> bool
         ensures { λ r. ⌜ TellsEnabled self r ⌝ }
     {

@@ -1,5 +1,5 @@
--- A text walked from the left: the fields of a group from a separator on, the groups from a group's first byte on; and what one entry or one
--- group more does to what is read.
+-- Laws of walking a text from the left: the fields of a group from a separator on, the groups from a group's first byte on, and what is read with one more
+-- entry or one more group.
 -- Assumes nothing.
 use mathlib.Core.Path.{_≡_, refl, _∙_, ap, sym}
 use Prim.Native.Nat.{_+_, _-_, _<_, _≤_, suc, zero, ℕ}

@@ -1,4 +1,4 @@
--- The bases of a kind from a place of SEQ on, as a walk comes to them; and an entry, by what its parts answer.
+-- The bases of a kind from a place of SEQ on, in the order of the walk; and an entry from the answers of its parts.
 -- Assumes nothing.
 use mathlib.Core.Path.{_≡_, _∙_, ap, sym, refl}
 use Prim.Native.Nat.{_+_, _-_, _<_, _≤_, min, suc, ℕ}

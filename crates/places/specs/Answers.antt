@@ -1,4 +1,4 @@
--- What the cases of each answer mean: the scope's number, and what was asked for.
+-- The cases of each answer: the place, or why there is none.
 -- Assumes nothing.
 use Prim.Native.Nat.{ℕ}
 use mathlib.Core.Option.{Option, none, some}
@@ -9,7 +9,7 @@ use Rattle.places.specs.declared.Found.the-variants as found
 use Rattle.places.specs.declared.Entry.{Entry}
 use Rattle.places.specs.declared.Entry.the-variants as entry
 
--- the place that was found
+-- the place that was found, if any
 abbrev pub foundSays : Found → Option ℕ
 foundSays (found.At p) = some (p .0)
 foundSays found.Nothing = none

@@ -1,5 +1,5 @@
-// The walk over the bases that a group counts. An ordinal counts those bases and a place counts the bytes of SEQ: the two are kept apart. A support
-// crate: a function here may ask something of its caller (`requires`).
+// The walk over the bases that a group counts. An ordinal counts these bases, a place counts the bytes of SEQ; each has its own type. A support
+// crate: its functions may have a `requires`.
 ghost use mathlib.Core.Path.{_≡_};
 ghost use Prim.Native.Nat.{_≤_};
 ghost use lib.ListN.{length, drop};
@@ -22,7 +22,7 @@ pub enum Found {
     Nothing,
 }
 
-// Where a walk may begin: behind whole blocks, if there are more than a few bases to pass. Where every base counts, none is looked at.
+// Where a walk may begin: after whole blocks, if there are more than a few bases to pass and the base is not 'N'; else at `from`.
 fn ahead(seq: &[u8], base: u8, from: usize, skip: usize) -> Stride
     requires { ⌜ (from ≤ length (now seq)) × (length (now seq) ≤ 16000) ⌝ }
     ensures { λ r. ⌜ (from ≤ r .place) × (r .place ≤ length (now (seq .entry))) × (r .passed ≤ skip)
@@ -39,7 +39,7 @@ fn ahead(seq: &[u8], base: u8, from: usize, skip: usize) -> Stride
     strides::pass_blocks(seq, seq, whole, base, from, skip)
 }
 
-// From a place on, passes `skip` of the group's bases and gives the place of the next.
+// From a place on, passes `skip` of the group's bases and returns the place of the next one.
 pub fn next_tracked(seq: &[u8], base: u8, from: Place, skip: Ordinal) -> Found
     requires { ⌜ (from .0 ≤ length (now seq)) × (length (now seq) ≤ 16000) ⌝ }
     ensures { λ r. ⌜ foundSays r ≡ firstOf (drop (skip .0) (trackedFrom base (from .0) (now (seq .entry)))) ⌝ }
@@ -61,14 +61,14 @@ pub fn next_tracked(seq: &[u8], base: u8, from: Place, skip: Ordinal) -> Found
     Found::Nothing
 }
 
-// Where an entry's base stands, or why there is none.
+// The place of an entry's base, or why there is none.
 pub enum Entry {
     On(Place),
     Refused(Refusal),
 }
 
 impl Entry {
-    // The refusal, passed on whole.
+    // The refusal, unchanged. `On` gives the number 0.
     pub fn refusal(self) -> Refusal
         ensures { λ r. ⌜ r ≡ entryRefusal self ⌝ }
     {
@@ -79,7 +79,7 @@ impl Entry {
     }
 }
 
-// The base that an entry lists, from a place on: 6 where its field is no number, 7 where SEQ has no such base.
+// The base that an entry lists, from a place on: 6 if its field is no number, 7 if SEQ has too few bases for it.
 pub fn find_entry(seq: &[u8], base: u8, field: &[u8], from: Place) -> Entry
     requires { ⌜ (length (now seq) ≤ 16000) × (from .0 ≤ length (now seq)) ⌝ }
     ensures { λ r. ⌜ entrySays r ≡ entryAt (now (field .entry)) (trackedFrom base (from .0) (now (seq .entry))) ⌝ }

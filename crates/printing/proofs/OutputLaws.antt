@@ -1,4 +1,4 @@
--- Lines and decimals as they are put, store by store.
+-- Writing lines and decimals, store by store.
 -- Assumes nothing.
 use mathlib.Core.Path.{_≡_, refl, sym, ap, _∙_}
 use Prim.Native.Nat.{ℕ, suc, _+_, _≤_, _<_}

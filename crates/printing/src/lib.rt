@@ -1,5 +1,5 @@
-// Lines put into `tagedit`'s output from a place on, as far as the room reaches; each gives the place after it. A support crate: a function here may ask
-// something of its caller (`requires`).
+// Writes lines into `tagedit`'s output from an index on, as far as the room reaches; each function returns the index after what it writes. A support
+// crate: its functions may have a `requires`.
 ghost use mathlib.Core.Path.{_≡_};
 ghost use mathlib.Core.List.{[], _∷_, _++_};
 ghost use Prim.Native.Nat.{_+_, _≤_};
@@ -7,7 +7,7 @@ ghost use lib.ListN.{length};
 ghost use lib.Seq.{sets};
 ghost use Rattle.lines.specs.Lines.{lineOf, lineEnd, answerLine, decimals};
 
-// The mark, what follows it, and LF.
+// Writes the mark, the body, and LF.
 pub fn put_line(out: &mut [u8], at: usize, a: u8, b: u8, body: &[u8]) -> usize
     requires { ⌜ (at ≤ 16777216) × (length (now body) ≤ 16777216) ⌝ }
     ensures { λ r. ⌜ (r ≡ at + length (a ∷ b ∷ now (body .entry) ++ lineEnd ∷ []))
@@ -20,7 +20,7 @@ pub fn put_line(out: &mut [u8], at: usize, a: u8, b: u8, body: &[u8]) -> usize
     end + 1
 }
 
-// An answer's number.
+// Writes the line of an answer's number.
 pub fn put_answer(out: &mut [u8], at: usize, number: usize) -> usize
     requires { ⌜ (at ≤ 16777216) × (number ≤ 255) ⌝ }
     ensures { λ r. ⌜ (r ≡ at + length (answerLine number)) × (now (out .exit) ≡ sets (now (out .entry)) at (answerLine number)) ⌝ }
@@ -32,7 +32,7 @@ pub fn put_answer(out: &mut [u8], at: usize, number: usize) -> usize
     end + 1
 }
 
-// Decimals with commas between.
+// Writes decimals separated by commas.
 fn put_decimals(out: &mut [u8], at: usize, values: &[u8]) -> usize
     requires { ⌜ (at ≤ 16777216) × (length (now values) ≤ 65536) ⌝ }
     ensures { λ r. ⌜ (r ≡ at + length (decimals (now (values .entry))))
@@ -50,7 +50,7 @@ fn put_decimals(out: &mut [u8], at: usize, values: &[u8]) -> usize
     end
 }
 
-// The line of an ML.
+// Writes the line of an ML.
 pub fn put_values_line(out: &mut [u8], at: usize, values: &[u8]) -> usize
     requires { ⌜ (at ≤ 8388608) × (length (now values) ≤ 65536) ⌝ }
     ensures { λ r. ⌜ (r ≡ at + length (lineOf "ML" (decimals (now (values .entry)))))

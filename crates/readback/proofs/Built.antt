@@ -26,8 +26,8 @@ use Rattle.reading.specs.Contracts.{ChecksTag, ReadsCalls}
 use Rattle.reading.specs.declared.Reading.{Reading}
 use Rattle.reading.proofs.Promises.{Listed, Room, read-calls-with-room}
 
--- What a reader finds in these rows: the listings, in SAMtags' words too, and as what `check_tag` answers and, where its columns have room, `read_calls`
--- answers and leaves.
+-- What reading these rows gives: the reader accepts them and lists ls, which they also say in SAMtags' words. `check_tag` answers with the counts of ls and,
+-- if its columns have room, `read_calls` lists ls.
 pub record ReadsBack (ml? : Bool) (seq text ml : List ℕ) (ls : List Listing) : Type 0 where
   pub accepted : readTag ml? seq text ml ≡ done ls
   pub says : Says ml? seq text ml ls
@@ -58,7 +58,7 @@ module _ (mode : MethylationMode) (p : ConversionPattern) (ev : Evidence) (seq m
       (built-is-accepted true mode p ev seq (length mm) (length ml) tag [] u is)
       (built-says true mode p ev seq (length mm) (length ml) tag [] u is))
 
-  -- `build_mm_tag_no_ml` answered Done: without an ML the same calls, with no values
+  -- `build_mm_tag_no_ml` answered Done: the same calls, without values since there is no ML
   pub built-alone-reads-back : (t : ℕ) (mm′ lent : List ℕ) → BuiltAlone mode p ev seq mm (written.Done t) mm′
       → ReadsBack false seq (take t mm′) lent (evidenceListing false mode p ev seq ∷ [])
   built-alone-reads-back t mm′ lent b =

@@ -1,5 +1,5 @@
--- One strand or two: over upper-case bases the reader accepts the joined tag that the duplex call leaves in the lent rows, over the SEQ that it
--- leaves, and lists exactly the calls of the strands' evidence, C to T first.
+-- One strand or two: over upper-case bases the reader accepts the joined tag that the duplex call leaves in the lent rows, read over the SEQ that the call
+-- leaves. The reader lists exactly the calls of the strands' evidence, C to T first.
 -- Assumes nothing.
 use mathlib.Core.Path.{_≡_, refl, sym, ap, _∙_}
 use Prim.Native.Nat.{ℕ, _<_, _≤_}
@@ -86,7 +86,7 @@ module _ (count : ℕ) (mode : MethylationMode) (bases : List ℕ) (a b : Strand
       ∙ both-length (eqb count 2) (a .pattern) (a .evidence .informative) (b .pattern) (b .evidence .informative) bases (k .first .inf) inf in
       omega (arith, long, k .first .short)
 
-  -- Where a call was written, the joined tag is read back over the SEQ that was written.
+  -- If a call was written, the joined tag is read back over the SEQ that was written.
   pub joined-reads-back : (f : Filled) (l : Rows) → Duplexes count mode bases a b lent (duplex.Done f) l → upperCase bases ≡ true → 0 < f .mm
       → let seq = take (f .seq) (l .seq) in
       (seq ≡ restoredBy (strandsOf (eqb count 2) a b) bases)

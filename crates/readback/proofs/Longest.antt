@@ -1,4 +1,4 @@
--- The bound on a built tag is met by the duplex call: two C to T strands that list every one of 16,000 C take 64,010 bytes of text, and with enough room the
+-- The duplex call reaches the bound on a built tag: two C to T strands that list every one of 16,000 C take 64,010 bytes of text, and with enough room the
 -- call answers so.
 -- Assumes nothing.
 use mathlib.Core.Path.{_≡_, refl, sym, ap, _∙_}
@@ -25,7 +25,7 @@ use Rattle.duplex.specs.declared.Duplex.the-variants as duplex
 use Rattle.duplex.specs.Contracts.{Duplexes, Rows, elevenRows, lengthsLent}
 use Rattle.readback.proofs.Joined.{came-to}
 
--- where SEQ shows C there is nothing to restore
+-- if SEQ shows C, there is nothing to restore
 c-is-not-t : sameInAnyCase 67 84 ≡ false
 unfolding sameInAnyCase upper
 c-is-not-t = refl

@@ -1,4 +1,4 @@
--- From what the walk over a tag says to what the public calls answer and leave.
+-- From the contract of the walk over a tag to the answers of the public calls, and the rows after them.
 -- Assumes nothing.
 use mathlib.Core.Path.{_≡_, refl, _∙_, ap, sym}
 use Prim.Native.Nat.{_+_, _-_, suc, ℕ, _<_, _≤_}

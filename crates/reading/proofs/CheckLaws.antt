@@ -1,4 +1,4 @@
--- What is asked of a tag before its groups are read: each test by itself, in the scope's order.
+-- The checks of a tag before its groups are read: each test by itself, in the scope's order.
 -- Assumes nothing.
 use mathlib.Core.Path.{_≡_}
 use Prim.Native.Nat.{_<_, _≤_, ℕ}

@@ -1,4 +1,4 @@
--- The contract that the kit made of each public call's `ensures` is the proposition of specs/Contracts.
+-- The contract that the kit makes of a public call's `ensures` gives the call's proposition of specs/Contracts. Theorems start from that proposition.
 -- Assumes nothing.
 use Rattle.lent.proofs.Cited.{Gives}
 use Rattle.reading.specs.Contracts.{ChecksTag, ReadsCalls, Tallies}

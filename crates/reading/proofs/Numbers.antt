@@ -1,4 +1,4 @@
--- Which numbers each public call can answer, 0 just where it is done; and for each of them an input that gets it.
+-- The numbers that each public call can answer: no other number, each of them for some input, and 0 exactly when the call is done.
 -- Assumes nothing.
 use mathlib.Core.Path.{_≡_, refl, ap}
 use Prim.Native.Nat.{ℕ}

@@ -1,5 +1,5 @@
--- What the code promises of meaning, from its contracts: a tag that `check_tag` accepts and that `read_calls` lists says what SAMtags says, a tag that
--- SAMtags gives a meaning is accepted with exactly its calls, and `tally` counts the values of the calls.
+-- The promises of the code about meaning, from its contracts. A tag that `check_tag` accepts and `read_calls` lists says what SAMtags says. A tag to which
+-- SAMtags gives a meaning is accepted with exactly its calls. `tally` counts the values of the calls.
 -- Assumes nothing.
 use mathlib.Core.Path.{_≡_, refl, ap, sym, _∙_}
 use Prim.Native.Nat.{ℕ, _+_, _≤_}
@@ -39,8 +39,8 @@ left column o ls row e = rw e (leaves-done column ls row)
 
 -- ---- a tag that is accepted
 
--- These are its listings: as many groups and calls as were answered, in rising order, and what SAMtags says of the text on an upper-case SEQ with no
--- group on U.
+-- ls are the listings of the tag: as many groups and calls as were answered, in rising order. On an upper-case SEQ with no group on U they are what
+-- SAMtags says of the text.
 pub record Accepted (ml? : Bool) (seq text ml : List ℕ) (groups calls : ℕ) (ls : List Listing) : Type 0 where
   pub read : readTag ml? seq text ml ≡ done ls
   pub counts : _≡_ {A = ℕ × ℕ} (countsOf ls) (groups, calls)
@@ -91,12 +91,12 @@ module _ (ml? : Bool) (seq text ml : List ℕ) (groups calls : ℕ) where
 abbrev pub Room : List Listing → List ℕ → List ℕ → List ℕ → Type 0
 Room ls gs ps ts = (length (callList ls) ≤ length gs) × (length (callList ls) ≤ length ps) × (length (callList ls) ≤ length ts)
 
--- Done with their number, and their columns over what was lent
+-- the answer is Done with the number of groups and calls; the front of each column holds the calls, and the rest is unchanged
 abbrev pub Listed : List Listing → List ℕ → List ℕ → List ℕ → Reading → List ℕ → List ℕ → List ℕ → Type 0
 Listed ls gs ps ts r gs′ ps′ ts′ =
     (readingSays r ≡ done (countsOf ls)) × (gs′ ≡ over (groupColumn ls) gs) × (ps′ ≡ over (placeColumn ls) ps) × (ts′ ≡ over (startColumn ls) ts)
 
--- `read_calls` answers Done on a tag that is read, wherever its columns have room
+-- `read_calls` answers Done on a tag that is read, whenever its columns have room
 pub read-calls-with-room : (ml? : Bool) (seq text ml : List ℕ) (ls : List Listing) → readTag ml? seq text ml ≡ done ls
     → (gs ps ts : List ℕ) → Room ls gs ps ts → (r : Reading) (gs′ ps′ ts′ : List ℕ) → ReadsCalls ml? seq text ml gs ps ts r gs′ ps′ ts′
     → Listed ls gs ps ts r gs′ ps′ ts′
@@ -113,7 +113,7 @@ read-calls-with-room ml? seq text ml ls read gs ps ts room r gs′ ps′ ts′ e
 
 -- ---- a tag that SAMtags gives a meaning
 
--- Spelled as SAMtags says, none on U, within the domain: `check_tag` answers with the groups and the calls that it means.
+-- For a tag spelled as SAMtags says, with no group on U and within the domain, `check_tag` answers with the number of its groups and of the calls it means.
 pub check-tag-accepts : (ml? : Bool) (seq : List ℕ) (s : Spelled) (ss : List Spelled) (ml : List ℕ) (css : List (List Call)) (r : Reading)
     → every isSpelling (s ∷ ss) ≡ true → noneOnU (s ∷ ss) ≡ true → upperCase seq ≡ true
     → TagMeans seq (cond ml? ml []) (map (meaningOf ml?) (s ∷ ss)) css → inDomain ml? seq (spelled (map pieceOf (s ∷ ss))) ml ≡ true
@@ -122,7 +122,7 @@ pub check-tag-accepts : (ml? : Bool) (seq : List ℕ) (s : Spelled) (ss : List S
 check-tag-accepts ml? seq s ss ml css r ok none upper means within e =
     e ∙ ap (onDone countsOf) (meant-is-accepted ml? seq s ss ml css ok none upper means within)
 
--- The same of `read_calls`: where the list fits the columns, it is exactly that of the calls that SAMtags gives, and the rest of each column stays.
+-- The same for `read_calls`: if the list fits the columns, it is exactly the list of the calls that SAMtags gives; the rest of each column is unchanged.
 pub read-calls-lists : (ml? : Bool) (seq : List ℕ) (s : Spelled) (ss : List Spelled) (ml : List ℕ) (css : List (List Call))
     → every isSpelling (s ∷ ss) ≡ true → noneOnU (s ∷ ss) ≡ true → upperCase seq ≡ true
     → TagMeans seq (cond ml? ml []) (map (meaningOf ml?) (s ∷ ss)) css → inDomain ml? seq (spelled (map pieceOf (s ∷ ss))) ml ≡ true
@@ -168,7 +168,7 @@ module _ (ml? : Bool) (seq : List ℕ) (ss : List Spelled) (ml : List ℕ) (spel
 
 -- ---- the tally
 
--- `tally` answered Done: a fold over the calls that are read, and no value is invented
+-- `tally` answered Done: its numbers are a fold over the calls that are read, and no value is invented
 pub tally-means : (seq text ml : List ℕ) (above below : ℕ) → Tallies seq text ml (tallied.Done above below)
     → (ls : List Listing) × (readTag true seq text ml ≡ done ls)
     × (_≡_ {A = Tally} (record { above = above; below = below }) (tallyCalls (allCalls ls))) × (above + below ≡ length ml)

@@ -1,4 +1,4 @@
--- The call list rises strictly: by group, and within a group by place. So no call stands in it twice, and a call can be searched for.
+-- The call list rises strictly: by group, and within a group by place. So no call is in it twice, and a call can be searched for.
 -- Assumes nothing.
 use mathlib.Core.Path.{_≡_, refl}
 use Prim.Native.Nat.{_+_, _<_, suc, ℕ}

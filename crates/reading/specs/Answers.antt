@@ -1,4 +1,4 @@
--- What the cases of each answer mean: the scope's number, and what was asked for.
+-- The cases of each answer as outcomes: done with the result, or the refusal.
 -- Assumes nothing.
 use Prim.Native.Nat.{ℕ}
 use Rattle.lent.specs.Outcome.{Outcome, refused, done}

@@ -1,4 +1,4 @@
--- The call reader as a public call: its outcome, what it answers and what it leaves in the three columns.
+-- The call reader as a public call: its outcome, its answer, and the three columns after the call.
 -- Assumes nothing.
 use Prim.Native.Nat.{ℕ}
 use mathlib.Core.Bool.{Bool, _&&_}
@@ -24,14 +24,14 @@ placeColumn ls = map (λ (r : Row). r .place) (callList ls)
 abbrev pub startColumn : List Listing → List ℕ
 startColumn ls = map (λ (r : Row). r .start) (callList ls)
 
--- the reader's outcome, and last 12 where the list is longer than a column
+-- the reader's outcome, and last 12 if the list is longer than a column
 unfoldable pub listedCalls : Bool → List ℕ → List ℕ → List ℕ → ℕ → ℕ → ℕ → Outcome (List Listing)
 unfolding readTag
 listedCalls ml? seq text ml groups places starts =
     andThen (readTag ml? seq text ml) (λ ls.
     need (leb (length (callList ls)) groups && leb (length (callList ls)) places && leb (length (callList ls)) starts) 12 (done ls))
 
--- what the call reader answers, and the columns as it leaves them
+-- the answer of the call reader, and the columns after the call
 pub record CallsRead : Type 0 where
   pub answer : Outcome (ℕ × ℕ)
   pub groups : List ℕ

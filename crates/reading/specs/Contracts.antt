@@ -1,4 +1,5 @@
--- What each public call promises, whole: one proposition for each, which its `ensures` cites and every theorem about it takes.
+-- The promise of each public call: one proposition per call, about its arguments, its answer and the lent rows after the call. The call's `ensures`
+-- cites it, and every theorem about the call uses it.
 -- Assumes nothing.
 use mathlib.Core.Path.{_≡_}
 use Prim.Native.Nat.{ℕ}
@@ -15,8 +16,8 @@ use Rattle.reading.specs.declared.Tallied.{Tallied}
 abbrev pub ChecksTag : Bool → List ℕ → List ℕ → List ℕ → Reading → Type 0
 ChecksTag ml? seq mm ml r = readingSays r ≡ onDone countsOf (readTag ml? seq mm ml)
 
--- `read_calls` answers r, and leaves groups′, places′ and starts′ in the columns that were lent as groups, places and starts: the call list at the
--- front of each and the rest as lent, or all as lent where the tag is refused or the list is longer than a column
+-- `read_calls` answers r, and leaves groups′, places′ and starts′ in the lent columns groups, places and starts. The call list is at the front of
+-- each column and the rest is unchanged. If the tag is refused or the list is longer than a column, every entry is unchanged.
 abbrev pub ReadsCalls :
     Bool → List ℕ → List ℕ → List ℕ → List ℕ → List ℕ → List ℕ → Reading → List ℕ → List ℕ → List ℕ → Type 0
 ReadsCalls ml? seq mm ml groups places starts r groups′ places′ starts′ =

@@ -1,4 +1,4 @@
--- What the first walk over a tag answers: the contract of a private function.
+-- The answer of the first walk over a tag: the contract of a private function.
 -- Assumes nothing.
 use mathlib.Core.Path.{_≡_}
 use mathlib.Core.List.{List, map}
@@ -8,7 +8,7 @@ use Rattle.measuring.specs.declared.Counted.{Counted}
 use Rattle.measuring.specs.declared.Counted.the-variants.{To, Refused, Unsure}
 use Rattle.reading.specs.Calls.{countsOf}
 
--- o is what the answer says of the whole tag; no call is marked, so it is never unsure
+-- the answer agrees with o, the outcome of the whole tag; no call is marked, so it is never `Unsure`
 abbrev pub TagMeasured : Outcome (List Group) → Counted → Type 0
 TagMeasured o (Refused r) = o ≡ refused r
 TagMeasured o Unsure = ⊥

@@ -1,7 +1,7 @@
-// Reading a tag: the call list, an answer without a list, and the tally. Port step 4, and the public face of what `samtags` defines.
+// Reading a tag: the call list, an answer without a list, and the tally. Port step 4: the public calls for what `samtags` defines.
 //
-// Each call takes SEQ, the MM text and the ML as the caller has them, of any length and content, and answers with the scope's numbers in the
-// scope's order. `has_ml` false is a tag without ML: the row lent for it is then not looked at. No public function asks anything of its caller.
+// Each call takes SEQ, the MM text and the ML as the caller has them, of any length and content, and answers with the scope's numbers in the scope's
+// order. If `has_ml` is false, the tag has no ML and the row lent for ML is ignored. No public function has a `requires`.
 ghost use mathlib.Core.Path.{_≡_};
 ghost use lib.ListN.{length};
 ghost use Rattle.lent.specs.Lists.{filter};
@@ -12,19 +12,19 @@ ghost use Rattle.reading.specs.Measured.{TagMeasured};
 use lent::Refusal;
 use measuring::Counted;
 
-// A tag that was read, with how many groups and calls it has, or why it was refused.
+// A tag that was read, with its number of groups and of calls, or why it was refused.
 pub enum Reading {
     Done(usize, usize),
     Refused(Refusal),
 }
 
-// How many values of a tag's ML are above (from 128 on) and how many below, or why the tag was refused.
+// How many values of a tag's ML are above (128 or more) and how many below, or why the tag was refused.
 pub enum Tallied {
     Done(usize, usize),
     Refused(Refusal),
 }
 
-// The first walk, which needs no places: everything that can be refused but the room, and how long the list will be.
+// The first walk, which needs no places: every refusal except for too little room, and the length of the list.
 fn measure(seq: &[u8], mm: &[u8], ml: &[u8], has_ml: bool) -> Counted
     ensures { λ r.
         ⌜ TagMeasured
@@ -58,9 +58,9 @@ pub fn check_tag(seq: &[u8], mm: &[u8], ml: &[u8], has_ml: bool) -> Reading
     Reading::Done(end.group, end.calls)
 }
 
-// The calls of a tag, in order, into three lent columns: the group's number counted from 1, the place in SEQ, and where the call's values start in
-// ML (0 without). Answers with how many groups and calls there are; the calls fill the front of each column. 12 where a column is shorter
-// than the list. With any refusal the columns stay as they were lent.
+// Writes the calls of a tag, in order, into three lent columns: the group's number counted from 1, the place in SEQ, and the index of the call's
+// first value in ML (0 without ML). Answers how many groups and calls there are; the calls fill the front of each column. 12 if a column is shorter
+// than the list. With any refusal the columns are unchanged.
 pub fn read_calls(
     seq: &[u8],
     mm: &[u8],
@@ -118,7 +118,7 @@ fn count_above(ml: &[u8]) -> usize
     above
 }
 
-// How many of a tag's ML values are above (from 128 on) and how many below; each value counts once. It always takes an ML.
+// How many of a tag's ML values are above (128 or more) and how many below; each value counts once. It always takes an ML.
 pub fn tally(seq: &[u8], mm: &[u8], ml: &[u8]) -> Tallied
     ensures { λ r. ⌜ Tallies (now (seq .entry)) (now (mm .entry)) (now (ml .entry)) r ⌝ }
 {

@@ -1,4 +1,4 @@
--- The sum of a list from a place on: one number more, none left.
+-- The sum of a list from an index on: one more number, and the end, when no number is left.
 -- Assumes nothing.
 use mathlib.Core.Path.{_≡_}
 use Prim.Native.Nat.{ℕ, _+_, _≤_, _<_}

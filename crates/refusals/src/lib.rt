@@ -1,5 +1,5 @@
-// Why a call over columns or over reads is refused, found out before anything is written. Each check answers as its definition does, and its caller
-// passes a refusal on. A support crate: the public calls stand in `annotation`.
+// Checks whether a call over columns or over reads is refused, before anything is written. Each check answers as its definition does, and its caller
+// passes a refusal on. A support crate: its functions may have a `requires`; the public calls are in `annotation`.
 ghost use mathlib.Core.Path.{_≡_};
 ghost use Prim.Native.Nat.{min, _≤_};
 ghost use lib.ListN.{length};
@@ -9,14 +9,14 @@ ghost use Rattle.lent.specs.Lists.{sum};
 use lent::Refusal;
 use lent::Written;
 
-// Positions of a consensus, and bases of SEQ.
+// The most positions of a consensus, and the most bases of SEQ.
 const POSITIONS: usize = 16000;
-// Reads in one count, and their bases together.
+// The most reads in one count, and the most bases of these reads together.
 const READS: usize = 4096;
 
 const BASES: usize = 1048576;
 
-// Three columns that are short enough and of one length: of how many positions.
+// Three columns within the domain and of one length; done with the number of positions.
 pub fn columns_of(informative: usize, unconverted: usize, converted: usize) -> Written
     ensures { λ r. ⌜ says r ≡ columnsOf informative unconverted converted ⌝ }
 {
@@ -54,7 +54,7 @@ fn in_room(n: usize, informative: usize, unconverted: usize, converted: usize) -
     Written::Done(n)
 }
 
-// SEQ and the column that says what is informative.
+// SEQ and the informative column.
 pub fn restorable(bases: usize, informative: usize) -> Written
     ensures { λ r. ⌜ says r ≡ restorable bases informative ⌝ }
 {
@@ -89,7 +89,7 @@ pub fn counts_in_room(
     asked
 }
 
-// The first `len` positions into three rows: how many they are.
+// The first `len` positions, or all if there are fewer, into three rows; done with their number.
 pub fn truncated(
     len: usize,
     informative: usize,
@@ -109,7 +109,7 @@ pub fn truncated(
     in_room(kept, kept_informative, kept_unconverted, kept_converted)
 }
 
-// How many bases the reads have together: in 64 bits, since each length may be any u32.
+// The number of bases of all reads together. It has 64 bits, since each length may be any u32.
 fn total(lengths: &[u32]) -> u64
     requires { ⌜ length (now lengths) ≤ 4096 ⌝ }
     ensures { λ r. ⌜ r ≡ sum (now (lengths .entry)) ⌝ }
@@ -123,7 +123,7 @@ fn total(lengths: &[u32]) -> u64
     passed
 }
 
-// Reads whose lengths, bases and aligned bytes agree, over a consensus that has room in three columns: the consensus' length.
+// Reads whose lengths, bases and aligned bytes agree, and a consensus that has room in three columns; done with the consensus' length.
 pub fn annotated(
     consensus_len: usize,
     read_lengths: &[u32],

@@ -1,4 +1,4 @@
--- What each call's `ensures` says is the proposition that promises take.
+-- The contract that the kit makes of a public call's `ensures` gives the call's proposition of specs/Contracts. Theorems start from that proposition.
 -- Assumes nothing.
 use Rattle.lent.proofs.Cited.{Gives}
 use Rattle.rewriting.specs.Contracts.{Drops, Masks, Trims}

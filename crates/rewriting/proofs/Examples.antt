@@ -1,4 +1,4 @@
--- What the promises of the edits ask for can be met: each is applied to a worked call, so that all of its hypotheses hold together.
+-- The hypotheses of the promises of the edits can be met: each promise is applied to a worked call, for which all its hypotheses hold together.
 -- Assumes nothing.
 use mathlib.Core.Path.{_≡_, refl}
 use Prim.Native.Nat.{ℕ}

@@ -1,4 +1,4 @@
--- Which numbers each call can answer: these, each of them, and 0 just where a tag was written.
+-- The numbers that each public call can answer: no other number, each of them for some input, and 0 exactly when the call is done.
 -- Assumes nothing.
 use mathlib.Core.Path.{_≡_, ap, refl}
 use Prim.Native.Nat.{ℕ}

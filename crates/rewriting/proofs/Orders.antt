@@ -1,4 +1,4 @@
--- Each public call by its tests, in the scope's order of refusals; and last the one edit that serves all three.
+-- The tests of each public call, in the scope's order of refusals; and last the one edit that serves all three calls.
 -- Assumes nothing.
 use mathlib.Core.Path.{_≡_}
 use Prim.Native.Nat.{ℕ, _<_, _≤_}

@@ -1,5 +1,6 @@
--- What the code promises of meaning, from its contracts: an edited tag is never longer than what came in, and read again it lists what was listed less what
--- went, every other call on its base with its values. Each theorem takes the call's contract, where it answered Done.
+-- The promises of the code about meaning, from its contracts. An edited tag is never longer than the tag that came in. Read again, it lists what was
+-- listed without the calls that went, and every other call is on its base with its values. Each theorem starts from the contract of a call that answered
+-- Done.
 -- Assumes nothing.
 use mathlib.Core.Path.{_∙_, _≡_, ap, refl, sym}
 use Prim.Native.Nat.{_+_, _<_, _≤_, ℕ}
@@ -103,7 +104,7 @@ module _ (ml? : Bool) (mm ml mm-out ml-out : List ℕ) (t m : ℕ) (mm′ ml′ 
         let (r, d) = made ml? masks t m mm-out ml-out mm′ ml′ l in
         shorter (maskedTo after) before masks r d (mask-edited r (d .came))
 
-    -- Where after differs from before only by N, every call whose base is not masked is read at its place with its values.
+    -- If after differs from before only by N, every call whose base is not masked is read at its place with its values.
     pub masked-lists : (ls : List Listing) → lists ml? before mm ml ≡ done ls → differsByN before after ≡ true
         → Masks ml? before after mm ml mm-out ml-out (tagged.Done t m) mm′ ml′ → lists ml? after (take t mm′) (take m ml′) ≡ done (map (unmaskedCalls after) ls)
     masked-lists ls e d l =
@@ -168,8 +169,8 @@ module _ (ml? : Bool) (mm ml mm-out ml-out : List ℕ) (t m : ℕ) (mm′ ml′ 
         let (lo, w, lies, is) = cut-edited r (d .came) in
         shorter (cutTo lo after) before cuts r d is
 
-    -- Every window that the call takes begins at a known place, and every call whose base is still held in it is read on its base with its values: those
-    -- outside go, and those on masked bases, but a group on any base keeps these.
+    -- Every window that the call accepts begins at a known place. Every call whose base the window still holds is read on its base with its values. Calls
+    -- outside the window go, and so do those on masked bases, except in a group on any base.
     pub cut-lists : (ls : List Listing) → lists ml? before mm ml ≡ done ls → Trims ml? start before after mm ml mm-out ml-out (tagged.Done t m) mm′ ml′
         → (lo : ℕ) × (windowStart (startSays start) before after ≡ some lo)
         × (lists ml? after (take t mm′) (take m ml′) ≡ done (map (callsHeldIn lo after) ls))
@@ -179,7 +180,7 @@ module _ (ml? : Bool) (mm ml mm-out ml-out : List ℕ) (t m : ℕ) (mm′ ml′ 
         let reads = cut-keeps-the-held ml? before mm ml ls e (take m ml′) lo after r lies is in
         (lo, q, rw (d .text) (ap (lists ml? after (r .text)) (sym (values-lent ml? r (take m ml′) (d .ml))) ∙ reads))
 
-    -- Where n bases from place a on are what is left, unmasked and fewer than there were, that is every call inside.
+    -- If what is left are n bases from place a on, unmasked and fewer than before, then every call inside is read.
     pub clean-cut-lists : (a n : ℕ) (ls : List Listing) → lists ml? before mm ml ≡ done ls → startSays start ≡ some a → after ≡ window a n before
         → a + n ≤ length before → length after < length before → Trims ml? start before after mm ml mm-out ml-out (tagged.Done t m) mm′ ml′
         → lists ml? after (take t mm′) (take m ml′) ≡ done (map (callsInWindow a n) ls)

@@ -1,6 +1,6 @@
--- What each public call promises, one proposition a call: its answer and every byte of the two rows lent to it, for all inputs. The call's `ensures` cites
--- it, and every theorem about the code takes it. `ml?` says whether the tag has an ML; `mm` and `ml` are the tag, `text` and `values` the rows lent for
--- the edited one, and `text′` and `values′` those rows as the call leaves them.
+-- The promise of each public call: one proposition per call, about its answer and every byte of the lent rows, for all inputs. The call's `ensures`
+-- cites it, and every theorem about the call uses it. `ml?` says whether the tag has an ML; `mm` and `ml` are the tag, `text` and `values` are the
+-- rows lent for the edited tag, and `text′` and `values′` are these rows after the call.
 -- Assumes nothing.
 use mathlib.Core.Path.{_≡_}
 use Prim.Native.Nat.{ℕ}
@@ -19,7 +19,7 @@ abbrev pub Masks : Bool → List ℕ → List ℕ → List ℕ → List ℕ → 
 Masks ml? before after mm ml text values r text′ values′ =
     rewrote (tagSays r) text′ values′ ≡ leavesTag ml? (maskTag ml? before after mm ml (length text) (length values)) text values
 
--- `drop_modifications_at`: the calls at the places go, and SEQ stays
+-- `drop_modifications_at`: the calls at the places are dropped, and SEQ stays
 abbrev pub Drops : Bool → List ℕ → List ℕ → List ℕ → List ℕ → List ℕ → List ℕ → Tagged → List ℕ → List ℕ → Type 0
 Drops ml? seq places mm ml text values r text′ values′ =
     rewrote (tagSays r) text′ values′ ≡ leavesTag ml? (dropFromTag ml? seq places mm ml (length text) (length values)) text values

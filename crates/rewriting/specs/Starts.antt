@@ -1,4 +1,4 @@
--- What the cases of a window's start mean.
+-- The cases of a window's start.
 -- Assumes nothing.
 use Prim.Native.Nat.{ℕ}
 use mathlib.Core.Bool.{cond}
@@ -11,6 +11,6 @@ abbrev pub startSays : WindowStart → Option ℕ
 startSays (Known lo) = some lo
 startSays Unknown = none
 
--- where the window starts, by the lengths of what stood before and after: the contract of a private function
+-- the start of the window, given the lengths of SEQ before and after: the contract of a private function
 abbrev pub startOf : Option ℕ → ℕ → ℕ → Option ℕ
 startOf start before after = cond (eqb before after) (some 0) start

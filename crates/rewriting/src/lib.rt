@@ -1,11 +1,9 @@
-// Rewriting a tag after its SEQ was masked or cut, or without the calls at some places. Port step 6, and the public face of what `samtags` defines
-// as edits.
+// Rewrites a tag after its SEQ was masked or cut, or without the calls at some places. Port step 6: the public calls for what `samtags` defines as edits.
 //
 // Each call takes SEQ, the MM text and the ML as the caller has them, of any length and content and in read orientation, and answers with the scope's
-// numbers in the scope's order. Done with how many bytes of text and of ML the edited tag takes: they fill the front of the two lent rows, and
-// the rest of each stays. With any other answer the rows stay as they were lent. `has_ml` false is a tag without ML: neither of the rows lent for
-// one is then looked at. Headers stay as spelled, skips are spelled anew, and a group that lost all its calls stays. No public function asks anything
-// of its caller.
+// numbers in the scope's order. Done with how many bytes of text and of ML the edited tag takes: they fill the front of the two lent rows, and the
+// rest of each row is unchanged. With any other answer the rows are unchanged. If `has_ml` is false, the tag has no ML and both rows lent for ML are
+// ignored. Headers stay as spelled, skips are spelled anew, and a group that lost all its calls stays. No public function has a `requires`.
 ghost use mathlib.Core.Path.{_≡_};
 ghost use mathlib.Core.Bool.{true};
 ghost use Prim.Native.Nat.{_≤_};
@@ -17,15 +15,15 @@ ghost use Rattle.rewriting.specs.Contracts.{Masks, Drops, Trims};
 use lent::Refusal;
 use lent::Tagged;
 
-// Where what is left of SEQ begins in what it was.
+// The place of the old SEQ where the edited SEQ begins.
 pub enum WindowStart {
     Known(usize),
     Unknown,
 }
 
-// SEQ was masked: `after` is as long as `before`, and a base that it no longer holds is no longer one of its group's. Its call goes, and it counts in
-// no later skip. Any byte of `after` may differ, not only by an N.
-// 1 for what is too long, 2 where the lengths differ, then 3, 4, .. as the reader, and last 12.
+// SEQ was masked: `after` is as long as `before`. A base that `after` no longer holds leaves its group: its call is dropped, and it counts in no
+// later skip. Any byte of `after` may differ, not only by an N.
+// 1 if something is too long, 2 if the lengths differ, then 3, 4, .. as the reader, and last 12.
 pub fn drop_masked_modifications(
     before: &[u8],
     after: &[u8],
@@ -52,7 +50,7 @@ pub fn drop_masked_modifications(
     editing::edit_tag(before, after, &no_marks, mm, ml, 0, has_ml, mm_out, ml_out)
 }
 
-// Drops the calls at the places, with a row to mark them in: it comes without a mark and is as long as SEQ or longer.
+// Drops the calls at the places. `marks` is a row to mark the places in: it has no mark yet and is at least as long as SEQ.
 fn drop_with(
     seq: &[u8],
     places: &[u32],
@@ -72,9 +70,9 @@ fn drop_with(
     editing::edit_tag(seq, seq, marks, mm, ml, 0, has_ml, mm_out, ml_out)
 }
 
-// The calls at the places go, and SEQ stays: their bases still count in later skips. The places may come in any order and more than once; those past
+// Drops the calls at the places. SEQ stays: their bases still count in later skips. The places may come in any order and more than once; places past
 // SEQ's end do nothing.
-// 1 for what is too long, then 3, 4, .. as the reader with 10 at an entry whose call would go from a group that may lose none, and last 12.
+// 1 if something is too long, then 3, 4, .. as the reader, with 10 at an entry whose call would be dropped from a group that may lose none, and last 12.
 pub fn drop_modifications_at(
     seq: &[u8],
     places: &[u32],
@@ -99,7 +97,7 @@ pub fn drop_modifications_at(
     drop_with(seq, places, mm, ml, has_ml, &mut marks, mm_out, ml_out)
 }
 
-// Where the window starts: at 0 where nothing was cut off, whatever start is given.
+// The start of the window: 0 if nothing was cut off, whatever start is given.
 fn window_start(start: WindowStart, before: usize, after: usize) -> WindowStart
     ensures { λ r. ⌜ startSays r ≡ startOf (startSays start) before after ⌝ }
 {
@@ -109,9 +107,10 @@ fn window_start(start: WindowStart, before: usize, after: usize) -> WindowStart
     start
 }
 
-// SEQ was cut: `after` is a window of `before`, in which a base may be masked by N or n. The calls outside go, and so do those on masked bases.
-// 1 for what is too long, 21 where nothing changed (the tag is then not read), 11 where `after` is no window of `before` or its start is unknown,
-// then 3, 4, .. as the reader, and last 12.
+// SEQ was cut: `after` is a window of `before`, in which a base may be masked by N or n. Calls outside the window are dropped, and so are calls on
+// masked bases, except in a group on any base ('N').
+// 1 if something is too long, 21 if nothing changed (then the tag is not read), 11 if `after` is no window of `before` or its start is unknown, then
+// 3, 4, .. as the reader, and last 12.
 pub fn trim_clipped_modifications(
     before: &[u8],
     after: &[u8],

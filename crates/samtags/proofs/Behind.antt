@@ -1,4 +1,4 @@
--- What is written of an edited tag never passes what is still to be read, entry by entry: so a tag can be edited in its own rows from the left.
+-- Writing an edited tag never overtakes reading it, entry by entry. So a tag can be edited in its own rows from the left.
 -- Assumes nothing.
 use mathlib.Core.Path.{_≡_}
 use Prim.Native.Nat.{ℕ, zero, suc, _+_, _-_, _*_, _^_, _≤_, _<_}
@@ -28,7 +28,7 @@ sum-fits n s m l h k = rw (pow-add 10 s l) (go (10 ^ s) (10 ^ l) h k)
     go zero y a b = absurd (omega arith)
     go (suc x) y a b = let one : 1 ≤ y = omega arith in omega (arith, mul-le-mul-left x one)
 
--- before the first entry nothing waits
+-- before the first entry no bare spot waits
 pub behind-start : (end at : ℕ) → end ≤ at → Behind end at 0
 behind-start end at h = (h, power-some (at - end))
 

@@ -1,5 +1,5 @@
--- Over upper-case bases, reading a built tag gives back exactly the calls that it was built from, for one strand and for two;
--- and a tag that is built for two strands takes at most 64,010 bytes.
+-- Over upper-case bases, reading a built tag gives back exactly the calls that it was built from, for one strand and for two. A tag that is built for two
+-- strands takes at most 64,010 bytes.
 -- Assumes nothing.
 use mathlib.Core.Path.{_≡_, refl, ap, _∙_, subst}
 use Prim.Native.Nat.{ℕ, suc, _+_, _*_, _≤_}
@@ -70,7 +70,7 @@ places-same p i (x ∷ xs) u =
 
 -- ---- with and without ML
 
--- a call with its values, or with none where there is no ML
+-- a call with its values, or with no values if there is no ML
 abbrev pub valuedCall : Bool → Call → Call
 valuedCall ml? c = record { place = c .place; values = cond ml? (c .values) [] }
 
@@ -255,7 +255,7 @@ some-valued ml? [] = refl
 some-valued ml? (bare p ∷ ss) = some-valued ml? ss
 some-valued ml? (call p vs ∷ ss) = refl
 
--- a group has calls just where its listing has
+-- a group has calls exactly when its listing has
 lists-filter : (ml? : Bool) (gs : List Group)
     → map listing (map (valuedGroup ml?) (filter hasCalls gs)) ≡ filter (λ (l : Listing). not (isEmpty (l .calls))) (map listing (map (valuedGroup ml?) gs))
 lists-filter ml? [] = refl
@@ -363,7 +363,7 @@ order-length strands = length-append (filter isCToT strands) (filter (λ s. not 
     parted [] = refl
     parted (s ∷ ss) = by-test (isCToT s) (λ e. rw e (omega (arith, parted ss))) (λ e. rw e (omega (arith, parted ss)))
 
--- A tag that is built for one or two strands on at most 16,000 bases takes at most 64,010 bytes of text and 32,000 of ML: it can always be edited.
+-- A tag built for at most two strands on at most 16,000 bases takes at most 64,010 bytes of text and 32,000 of ML. So it can always be edited.
 pub joined-fits-the-domain : (mode : MethylationMode) (strands : List Strand) (seq : List ℕ) → length strands ≤ 2 → length seq ≤ 16000
     → (length (joinedTag mode strands seq .text) ≤ 64010) × (length (joinedTag mode strands seq .ml) ≤ 32000)
 unfolding joinedTag joinedGroups
@@ -400,7 +400,7 @@ built-short ml? mode p ev seq t m r e =
       omega (arith, short .1, length-append (concatMap valuesOf (g .spots)) []),
     )
 
--- What is built, with and without ML, is accepted by the public reader and lists exactly the calls of the evidence.
+-- A built tag, with or without ML, is accepted by the public reader and lists exactly the calls of the evidence.
 pub built-is-accepted : (ml? : Bool) (mode : MethylationMode) (p : ConversionPattern) (ev : Evidence) (seq : List ℕ) (t m : ℕ) (r : Tag) (lent : List ℕ)
     → upperCase seq ≡ true → buildTag ml? mode p ev seq t m ≡ done r
     → readTag ml? seq (r .text) (cond ml? (r .ml) lent) ≡ done (evidenceListing ml? mode p ev seq ∷ [])

@@ -1,4 +1,4 @@
--- What is built, in SAMtags' words alone: its text is spelled as SAMtags says, and its groups mean exactly the calls of the evidence.
+-- A built tag, in SAMtags' words alone: its text is spelled as SAMtags says, and its groups mean exactly the calls of the evidence.
 -- Assumes nothing.
 use mathlib.Core.Path.{_≡_, refl, ap, subst}
 use Prim.Native.Nat.{ℕ}
@@ -25,8 +25,8 @@ use Rattle.samtags.proofs.ReadMeans.{noU, callsOf}
 use Rattle.samtags.proofs.MeantIsRead.{read-is-meant}
 use Rattle.samtags.proofs.Building.{evidenceListing, joinedListings, valuedGroup, strand-lists, no-u, joined-list, joined-no-u, built-tag, built-is-read, joined-is-read}
 
--- A tag says these listings: there are groups, spelled as SAMtags says, whose spelling is the text, whose headers are the listings', and which
--- mean their calls.
+-- A tag says these listings if there are groups, spelled as SAMtags says, whose spelling is the text. The groups have the headers of the listings and mean
+-- the calls of the listings.
 pub record Says (ml? : Bool) (seq text ml : List ℕ) (ls : List Listing) : Type 0 where
   pub groups : List Spelled
   pub spelling : every isSpelling groups ≡ true
@@ -91,7 +91,7 @@ groups-say ml? seq gs ml ls a same u n e = record {
 
 -- ---- the theorems
 
--- What is built for one strand, with and without ML, says exactly the calls of the evidence.
+-- A tag built for one strand, with or without ML, says exactly the calls of the evidence.
 pub built-says : (ml? : Bool) (mode : MethylationMode) (p : ConversionPattern) (ev : Evidence) (seq : List ℕ) (t m : ℕ) (r : Tag) (lent : List ℕ)
     → upperCase seq ≡ true → buildTag ml? mode p ev seq t m ≡ done r
     → Says ml? seq (r .text) (cond ml? (r .ml) lent) (evidenceListing ml? mode p ev seq ∷ [])
@@ -116,7 +116,7 @@ module _ (ml? : Bool) (mode : MethylationMode) (seq : List ℕ) (u : upperCase s
       (λ e. rw e (strandlike-filter hasCalls (map (groupOf mode seq) (inJoinOrder strands)) (all-strands (inJoinOrder strands))))
       (λ e. rw e tt)
 
-  -- What is built for strands, where it has a call, says exactly the calls of all, C to T first.
+  -- A tag built for a list of strands, if it has a call, says exactly the calls of all of them, C to T first.
   pub joined-says : (strands : List Strand) (lent : List ℕ) → isEmpty (joinedGroups mode strands seq) ≡ false
       → Says ml? seq (joinedTag mode strands seq .text) (cond ml? (joinedTag mode strands seq .ml) lent) (joinedListings ml? mode strands seq)
   unfolding joinedTag

@@ -1,4 +1,4 @@
--- What the promises ask for can be met: each is applied to a worked tag, so that all of its hypotheses hold together.
+-- The hypotheses of the promises can be met: each promise is applied to a worked tag, for which all its hypotheses hold together.
 -- Assumes nothing.
 use mathlib.Core.Path.{_≡_, refl}
 use Prim.Native.Nat.{ℕ, zero, suc, _*_, _<_}

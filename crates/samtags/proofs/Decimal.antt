@@ -1,4 +1,4 @@
--- Decimals: a number that is written and read is the number, and how long a number is.
+-- Decimals: a number that is written and then read is the same number. Also the length of a written number.
 -- Assumes nothing.
 use mathlib.Core.Path.{_≡_, refl}
 use Prim.Native.Nat.{ℕ, zero, suc, _+_, _-_, _*_, _/_, _%_, _^_, _≤_, _<_}

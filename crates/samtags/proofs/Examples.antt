@@ -1,5 +1,5 @@
--- The session of the scope's program, by computation, and a dozen worked values: what SAMtags tells of its own examples, and the smaller definitions.
--- The scope's examples beside each edge stand in the crate `edges`.
+-- The session of the scope's program, by computation. Then a dozen worked values: SAMtags' own examples, and the smaller definitions. The scope's examples
+-- (a) to (l) are in the crate `edges`.
 -- Assumes nothing.
 use mathlib.Core.Path.{_≡_, refl, sym, ap, _∙_}
 use Prim.Native.Nat.{ℕ}

@@ -1,5 +1,5 @@
--- After a drop and after a cut the tag lists what it listed less what went: every other call is at its place, or as much nearer as was cut before it, with its
--- values. What is left by a cut may be masked by N or n here and there. (A mask's law is in Masking.)
+-- After a drop or a cut the tag lists what it listed, without the calls that went. Every other call keeps its values and its place; after a cut the place
+-- is smaller by the number of bases cut off before it. Some bases that a cut leaves may be masked by N or n. (The law of a mask is in Masking.)
 -- Assumes nothing.
 use mathlib.Core.Path.{_∙_, _≡_, ap, refl, sym}
 use Prim.Native.Nat.{_+_, _-_, _≤_, suc, ℕ}
@@ -178,7 +178,7 @@ module _ (ml? : Bool) (seq text ml : List ℕ) (ls : List Listing) (reads : list
       (then-lists seq (dropGroup (among ps)) (withoutCallsAt ps) (λ (g : Group). ap (λ (cs : List Call). record { header = g .header; calls = cs }) (calls-dropped (among ps) (g .spots)))
       gs (done-inj listed) (drop-reads ml? seq text ml gs read-gs (among ps) lent))
 
-  -- A cut to n bases from place a on leaves every call inside at its base, with its values.
+  -- A cut to the n bases from place a on leaves every call inside on its base, with its values.
   pub cut-keeps-the-others : (a n : ℕ) (r : Tag) → a + n ≤ length seq → edited (cutTo a (window a n seq)) ml? seq text ml ≡ done r
       → lists ml? (window a n seq) (r .text) (cond ml? (r .ml) lent) ≡ done (map (callsInWindow a n) ls)
   unfolding lists
@@ -203,8 +203,8 @@ module _ (ml? : Bool) (seq text ml : List ℕ) (ls : List Listing) (reads : list
       let some = tag-some (tag-read ml? nowhere seq text ml gs read-gs) in
       read-back ml? after (map (heldGroup a after) gs) lent (all-held-fit a after ml? seq l gs (tag-fits cut)) (map-some (heldGroup a after) gs some)
 
-  -- A cut to what lies in SEQ from place a on, each byte as it was or masked by N or n, leaves every call whose base is still held at its base, with its
-  -- values.
+  -- A cut to a window of SEQ from place a on, in which each byte is unchanged or masked by N or n, leaves every call whose base is still held on its base,
+  -- with its values.
   pub cut-keeps-the-held : (a : ℕ) (after : List ℕ) (r : Tag) → liesIn after (drop a seq) ≡ true → edited (cutTo a after) ml? seq text ml ≡ done r
       → lists ml? after (r .text) (cond ml? (r .ml) lent) ≡ done (map (callsHeldIn a after) ls)
   unfolding lists

@@ -1,4 +1,4 @@
--- What is left of a group after the steps so far, and that one step more takes it to what is left after that step.
+-- What is left of a group after the steps so far. One more step turns it into what is left after that step.
 -- Assumes nothing.
 use mathlib.Core.Path.{_≡_, refl, sym, ap, _∙_}
 use Prim.Native.Nat.{ℕ, _+_, _-_, _≤_, _<_}

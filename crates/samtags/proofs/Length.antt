@@ -1,4 +1,4 @@
--- An edited tag is no longer than what came in: each call that goes saves at least one byte of text.
+-- An edited tag is no longer than the tag that came in: each call that goes saves at least one byte of text.
 -- Assumes nothing.
 use mathlib.Core.Path.{_≡_, refl, ap, _∙_, subst}
 use Prim.Native.Nat.{ℕ, zero, suc, _+_, _*_, _^_, _≤_, _<_}
@@ -193,7 +193,7 @@ module _ (e : Edit) where
   each-call-saves ml? seq text ml gs r =
       omega (arith, groups-length (tag-read ml? (e .dropped) seq text ml gs r .groups), text-length text)
 
-  -- the edited ML is never heavier than what came in: its values are some of those
+  -- the edited ML never weighs more than the ML that came in: its values are some of those
   pub never-heavier : (w : ℕ → ℕ) (ml? : Bool) (seq text ml : List ℕ) (r : Tag) → edited e ml? seq text ml ≡ done r
       → weight w (r .ml) ≤ weight w (cond ml? ml [])
   unfolding edited written
@@ -203,7 +203,7 @@ module _ (e : Edit) where
       subst (λ (q : Tag). weight w (q .ml) ≤ weight w (cond ml? ml [])) (done-inj (i .2))
       (omega (arith, ml-lighter w gs, ap (weight w) (tag-used (tag-read ml? (e .dropped) seq text ml gs (i .1)))))
 
-  -- the edited text and ML are never longer than what came in
+  -- the edited text and ML are never longer than the text and ML that came in
   pub never-longer : (ml? : Bool) (seq text ml : List ℕ) (r : Tag) → edited e ml? seq text ml ≡ done r
       → (length (r .text) ≤ length text) × (length (r .ml) ≤ length (cond ml? ml []))
   unfolding edited written

@@ -1,4 +1,4 @@
--- From spots to listings: what the groups that are left list, and which drops are open to them.
+-- From spots to listings: the listings of the groups that are left, and the drops that they allow.
 -- Assumes nothing.
 use mathlib.Core.Path.{_≡_, refl, sym, ap, _∙_}
 use Prim.Native.Nat.{ℕ, _-_}
@@ -46,7 +46,7 @@ and-never : (t : Bool) → not (t && false) ≡ true
 and-never true = refl
 and-never false = refl
 
--- a drop is open to a group just where its listing has no call that the drop must not take
+-- a drop is open to a group exactly when its listing has no call that the drop must not take
 open-same : (ps : List ℕ) (g : Group) → mayDrop (among ps) g ≡ not (listsUnmarked ps (listing g))
 unfolding mayDrop listsUnmarked
 open-same ps g = go (endsInQuestion (g .header)) (g .spots)

@@ -1,4 +1,4 @@
--- The longest tag: every base is listed, so every skip is 0 and each entry takes two bytes. With it the bound on a built tag is met exactly.
+-- The longest tag: every base is listed, so every skip is 0 and each entry takes two bytes. This tag reaches the bound on a built tag exactly.
 -- Assumes nothing.
 use mathlib.Core.Path.{_≡_, refl, sym, ap, _∙_}
 use Prim.Native.Nat.{ℕ, zero, suc, _+_, _*_, _<_, _≤_}

@@ -1,4 +1,5 @@
--- A mask edit whose `after` differs from `before` only by N keeps every other call on its base; and a counterexample where `after` gains a letter.
+-- A mask edit whose `after` differs from `before` only by N keeps every other call on its base. A counterexample shows that a call can move if `after`
+-- gains a letter.
 -- Assumes nothing.
 use mathlib.Core.Path.{_≡_, refl, sym, ap, _∙_}
 use Prim.Native.Nat.{ℕ, suc}
@@ -91,7 +92,7 @@ mask-keeps-the-others ml? before after text ml ls lent e d =
     ap (λ (a : List ℕ). read ml? nowhere a (w .text) (cond ml? (w .ml) lent)) (sym same) ∙ mask-reads ml? before text ml gs (i .1) (isN after) lent in
     rw (answers, reads) (ap done (groups-unmasked after gs ∙ ap (map (unmaskedCalls after)) (done-inj (i .2))))
 
--- Where after gains a letter a call can move: `C+m?,0;` on AC calls place 1; masked to CC the text stays, and calls place 0.
+-- If after gains a letter, a call can move: `C+m?,0;` on AC calls place 1. Masked to CC, the text is unchanged and calls place 0.
 pub gained-letter-moves-a-call :
     (lists true (ascii "AC") (ascii "C+m?,0;") (7 ∷ []) ≡ done (record { header = ascii "C+m?"; calls = record { place = 1; values = 7 ∷ [] } ∷ [] } ∷ []))
     × (edited (maskedTo (ascii "CC")) true (ascii "AC") (ascii "C+m?,0;") (7 ∷ []) ≡ done (record { text = ascii "C+m?,0;"; ml = 7 ∷ [] }))

@@ -1,4 +1,4 @@
--- What SAMtags allows is not refused: a tag that is spelled as SAMtags says and means these calls is read, and lists exactly them.
+-- What SAMtags allows is not refused: a tag that is spelled as SAMtags says and means some calls is read, and lists exactly these calls.
 -- Assumes nothing.
 use mathlib.Core.Path.{_≡_, refl, sym, ap, ap₂, _∙_}
 use Prim.Native.Nat.{ℕ, suc, _+_, _*_, _≤_, _<_}
@@ -220,7 +220,7 @@ calls-read b k fs seq ml cs ub nu u num long g =
           (m .values j j-lt ∙ sym (g .values j (rw size j-lt)))),
     )
 
--- the listing of a group that is spelled so and means these calls
+-- the listing of a group with this spelling and these calls
 abbrev pub listingOf : Spelled → List Call → Listing
 listingOf s cs = record { header = headerText (s .header); calls = cs }
 
@@ -316,8 +316,8 @@ spelled-last d s ss =
         ∙ ap (λ (c : ℕ). lastOr c (spelling ts)) (lastOr-append semicolon (headerText (t .header) ++ ledByCommas (t .skips)) (semicolon ∷ []))
         ∙ rest ts
 
--- What SAMtags allows is read. A tag of one group or more (SAMtags allows none), spelled as SAMtags says, none on U, that means these calls on
--- an upper-case SEQ is accepted, and lists exactly them.
+-- What SAMtags allows is read. Take a tag of one group or more (SAMtags also allows no group), spelled as SAMtags says and with no group on U. If it means
+-- these calls on an upper-case SEQ, it is accepted and lists exactly these calls.
 pub meant-is-read : (ml? : Bool) (seq : List ℕ) (s : Spelled) (ss : List Spelled) (ml : List ℕ) (css : List (List Call))
     → every isSpelling (s ∷ ss) ≡ true → noneOnU (s ∷ ss) ≡ true → upperCase seq ≡ true
     → TagMeans seq (cond ml? ml []) (map (meaningOf ml?) (s ∷ ss)) css
@@ -327,7 +327,7 @@ meant-is-read ml? seq s ss ml css ok nu u means =
     let r = groups-read ml? seq (s ∷ ss) (cond ml? ml []) css ok nu u means in
     rw (spelled-low (s ∷ ss) ok, spelled-last 0 s ss, r .1) (ap done (r .2))
 
--- And so by the public reader, within the domain.
+-- Within the domain, the public reader accepts it too.
 pub meant-is-accepted : (ml? : Bool) (seq : List ℕ) (s : Spelled) (ss : List Spelled) (ml : List ℕ) (css : List (List Call))
     → every isSpelling (s ∷ ss) ≡ true → noneOnU (s ∷ ss) ≡ true → upperCase seq ≡ true
     → TagMeans seq (cond ml? ml []) (map (meaningOf ml?) (s ∷ ss)) css → inDomain ml? seq (spelled (map pieceOf (s ∷ ss))) ml ≡ true
@@ -355,7 +355,7 @@ spelled-entries ml? (s ∷ ss) ok =
       spelled-entries ml? ss (and-true-r (isSpelling s) (every isSpelling ss) ok),
     )
 
--- What the reader lists of a tag that is spelled as SAMtags says, on an upper-case SEQ and with no group on U, are SAMtags' calls of its groups.
+-- For a tag spelled as SAMtags says, on an upper-case SEQ and with no group on U, the reader lists exactly the calls that SAMtags gives its groups.
 pub read-is-meant : (ml? : Bool) (seq : List ℕ) (ss : List Spelled) (ml : List ℕ) (ls : List Listing) → every isSpelling ss ≡ true
     → upperCase seq ≡ true → noU ls ≡ true → lists ml? seq (spelled (map pieceOf ss)) ml ≡ done ls
     → TagMeans seq (cond ml? ml []) (map (meaningOf ml?) ss) (callsOf ls)

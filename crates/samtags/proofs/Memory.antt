@@ -1,4 +1,4 @@
--- Demand 3 about memory: the session's buffers, handed on as each step left them, hold what the session means.
+-- Demand 3 about memory: if each step gets the session's buffers as the previous step left them, the buffers hold what the session means.
 -- Assumes nothing.
 use mathlib.Core.Path.{_≡_, refl, ap, _∙_}
 use Prim.Native.Nat.{ℕ, _+_, _-_, _≤_, _<_}
@@ -22,7 +22,7 @@ use Rattle.lent.proofs.Outcome.{need-test, need-rest}
 use Rattle.samtags.proofs.Length.{never-longer, never-heavier, weight}
 use Rattle.samtags.proofs.SessionMeaning.{mask-length, session-meaning, refused-steps}
 
--- ---- a step lets nothing grow, and leaves alone an ML that there is not
+-- ---- a step makes nothing longer; without ML the ML is unchanged
 
 pub record No-longer (ml? : Bool) (h s : Held) : Type 0 where
   pub seq-in : length (s .seq) ≤ length (h .seq)
@@ -205,7 +205,7 @@ opened-in-order ml? m ls e =
       need-rest (lengthsInBuffers ml? m) 2 _ ls e₂,
     )
 
--- Demand 3: a session whose opening is accepted, with and without ML, on buffers of any length, comes to what it means, whatever its steps.
+-- Demand 3: a session whose opening is accepted, with or without ML and on buffers of any length, results in what it means, whatever its steps.
 pub session-in-memory : (ml? : Bool) (m : Memory) (ls : List Listing) → openSession ml? m ≡ done ls → (ts : List Step) → Session-in-memory ml? m ls ts
 session-in-memory ml? m ls e ts =
     let o = opened-in-order ml? m ls e in
@@ -217,12 +217,12 @@ session-in-memory ml? m ls e ts =
       answers-then = f .1 ∙ w .answers-then;
     }
 
--- Refused are exactly the drops of a listed call under a header that doesn't end in '?', and the cuts of more than SEQ holds.
+-- The refused steps are exactly the drops of a listed call under a header that doesn't end in '?', and the cuts of more than SEQ holds.
 pub refused-exactly : (ml? : Bool) (m : Memory) (ls : List Listing) → openSession ml? m ≡ done ls → (ts : List Step)
     → map isRefusal (answersInMemory ml? ts m) ≡ refusedSteps ls ts (opening (heldIn m .seq))
 refused-exactly ml? m ls e ts = rw (session-in-memory ml? m ls e ts .answers-then) (refused-steps ls ts (opening (heldIn m .seq)))
 
--- a step that gives a number, a refusal's or 21, changes nothing
+-- a step that answers a number other than 0, a refusal's or 21, changes nothing
 pub refused-changes-nothing : (ml? : Bool) (t : Step) (m : Memory) → 0 < numberOf (stepInMemory ml? t m) → afterStep m (stepInMemory ml? t m) ≡ m
 refused-changes-nothing ml? t m h = by-outcome (stepInMemory ml? t m) h
   where

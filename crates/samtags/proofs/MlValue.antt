@@ -1,4 +1,4 @@
--- What an ML value stands for, as SAMtags says it: N is for probabilities from N/256 up to (N+1)/256, and 255 for certainty too.
+-- The meaning of an ML value, as SAMtags says it: N is for probabilities from N/256 up to (N+1)/256, and 255 also for certainty.
 -- Assumes nothing.
 use mathlib.Core.Path.{_≡_, refl}
 use mathlib.Core.Logic.{⊎-elim}
@@ -12,7 +12,7 @@ below-256 : (s t q : ℕ) → s < t → q * t ≤ 256 * s → q < 256
 below-256 s t q h l =
     ⊎-elim (λ big. let z : ⊥ = omega (arith, mul-le-mul-right t big) in absurd z) (λ small. small) (le-or-lt 256 q)
 
--- a probability s/t below 1
+-- for a probability s/t below 1
 pub ml-value-means : (s t : ℕ) → s < t → (mlValue s t * t ≤ 256 * s) × (256 * s < suc (mlValue s t) * t)
 unfolding mlValue
 ml-value-means s t h =

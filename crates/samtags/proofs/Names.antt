@@ -1,5 +1,4 @@
--- The tracked places are those that SAMtags' count names: the place with m bases of the kind before it is the m-th tracked one, and the other
--- way round.
+-- The tracked places are those that SAMtags' count names: the place with m bases of the kind before it is the m-th tracked place, and the other way round.
 -- Assumes nothing.
 use mathlib.Core.Path.{_≡_, refl, sym, ap, _∙_}
 use Prim.Native.Nat.{ℕ, zero, suc, _+_, _-_, _≤_, _<_}
@@ -137,7 +136,7 @@ module _ (b : ℕ) (ub : upper b ≡ b) (nu : eqb b letterU ≡ false) where
       }) in
       (r .0, r .1 ∙ omega arith)
 
--- a count names one place at most
+-- a count names at most one place
 pub names-one : (b : ℕ) (seq : List ℕ) (m p q : ℕ) → Names b seq m p → Names b seq m q → p ≡ q
 unfolding kindBefore
 names-one b seq m p q n k =

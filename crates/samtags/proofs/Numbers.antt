@@ -1,4 +1,4 @@
--- Which numbers the definitions can refuse with: reading, the edits, building, and the session's opening and steps.
+-- The numbers with which the definitions can refuse: reading, the edits, building, and the session's opening and steps.
 -- Assumes nothing.
 use mathlib.Core.Path.{_≡_, refl, sym, ap, _∙_}
 use Prim.Native.Nat.{ℕ, zero, suc, _+_, _-_}
@@ -251,7 +251,7 @@ unfolding openSession
 open-session-only ml? m =
     in-order-only openNumbers ml? m _ refl refl (lists-only openNumbers refl ml? (heldIn m .seq) (heldIn m .text) (heldIn m .ml))
 
--- what each kind of step can refuse with
+-- the numbers with which each kind of step can refuse
 abbrev pub stepNumbers : Step → List ℕ
 stepNumbers (mask ps) = 1 ∷ 2 ∷ 3 ∷ 4 ∷ 5 ∷ 6 ∷ 7 ∷ 8 ∷ 9 ∷ []
 stepNumbers (dropCalls ps) = 1 ∷ 2 ∷ 3 ∷ 4 ∷ 5 ∷ 6 ∷ 7 ∷ 8 ∷ 9 ∷ 10 ∷ []

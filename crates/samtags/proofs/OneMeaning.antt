@@ -1,4 +1,4 @@
--- SAMtags' definition gives a tag one meaning at most: the calls are settled by SEQ, ML and the groups.
+-- SAMtags' definition gives a tag at most one meaning: SEQ, ML and the groups determine the calls.
 -- Assumes nothing.
 use mathlib.Core.Path.{_≡_, refl, sym, ap₂, _∙_}
 use Prim.Native.Nat.{ℕ, _<_}

@@ -1,4 +1,4 @@
--- A text is spelled as SAMtags says in one way at most, so that what it means is settled by the text.
+-- A text is spelled as SAMtags says in at most one way, so the text determines what it means.
 -- Assumes nothing.
 use mathlib.Core.Path.{_≡_, refl, sym, ap, subst, _∙_}
 use Prim.Native.Nat.{ℕ}
@@ -59,7 +59,7 @@ pub one-spelling : (ss ts : List Spelled) → every isSpelling ss ≡ true → e
     → spelled (map pieceOf ss) ≡ spelled (map pieceOf ts) → ss ≡ ts
 one-spelling ss ts p q e = sym (spelled-back ss p) ∙ ap (λ (t : List ℕ). map spelledIn (closedBy semicolon t)) e ∙ spelled-back ts q
 
--- A text means one list of calls at most.
+-- A text means at most one list of calls.
 pub text-means-one : {ml? : Bool} {seq text ml : List ℕ} {css dss : List (List Call)} → TextMeans ml? seq text ml css → TextMeans ml? seq text ml dss
     → css ≡ dss
 text-means-one {ml?} {seq} {text} {ml} {css} m n =

@@ -1,4 +1,5 @@
--- A strand's own tag: its group's where there is a chemistry and a call, else empty; and the joined tag as the strands' own tags, one after the other.
+-- A strand's own tag is its group's tag if there is a chemistry and a call, and otherwise empty. The joined tag is the strands' own tags, one after the
+-- other.
 -- Assumes nothing.
 use mathlib.Core.Path.{_∙_, _≡_, ap, refl, sym}
 use Prim.Native.Nat.{_<_, suc, ℕ}
@@ -39,7 +40,7 @@ module _ (mode : MethylationMode) (p : ConversionPattern) (ev : Evidence) (seq :
   unfolding joinedTag joinedGroups
   own-called e h = rw (e, alone p ev, h)
 
--- a strand's call has one value, so its group has calls just where it has values
+-- a strand's call has one value, so its group has calls exactly when it has values
 spots-have : (f : ℕ → Option ℕ) (ps : List ℕ)
     → isEmpty (callsIn (map (λ q. spotAt (f q) q) ps)) ≡ eqb (length (concatMap valuesOf (map (λ q. spotAt (f q) q) ps))) 0
 spots-have f [] = refl

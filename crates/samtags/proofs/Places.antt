@@ -1,4 +1,4 @@
--- Where the tracked places of a SEQ go when it is masked or cut.
+-- The tracked places of a SEQ after it is masked or cut.
 -- Assumes nothing.
 use mathlib.Core.Path.{_≡_, refl, sym, ap, _∙_}
 use Prim.Native.Nat.{ℕ, zero, suc, _+_, _-_, _≤_, _<_}
@@ -87,7 +87,7 @@ tracked-inside b seq = places-below (holds b) (length seq) 0 seq (omega arith)
 abbrev pub unmasked : (ℕ → Bool) → ℕ → ℕ → Bool
 unmasked t b p = eqb b letterN || not (t p)
 
--- a byte that held b holds it after masking just where it was not masked
+-- a byte that held b holds it after masking exactly when it was not masked
 holds-masked : (b x : ℕ) (t : Bool) → holds b x ≡ true → holds b (cond t letterN x) ≡ eqb b letterN || not t
 unfolding holds
 holds-masked b x false h = h ∙ sym (or-true (eqb b letterN))

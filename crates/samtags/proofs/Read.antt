@@ -1,5 +1,4 @@
--- What a reading that succeeds went through, as views that later laws go by; that what is read fits SEQ and uses all of ML; and just when a
--- drop is refused.
+-- The steps of a reading that succeeds, as views that later laws use. What is read fits SEQ and uses all of ML. Last, exactly when a drop is refused.
 -- Assumes nothing.
 use mathlib.Core.Path.{_≡_, refl, sym, ap, _∙_, subst}
 use Prim.Native.Nat.{ℕ}
@@ -150,7 +149,7 @@ groups-fit (a-group {g = g} {gs = ps} long r rs) a b = (
   groups-fit rs (and-true-r (lacks semicolon g) (every (lacks semicolon) ps) a) (and-true-r (every isAscii g) (every (every isAscii) ps) b),
 )
 
--- what is read fits
+-- what is read fits SEQ
 pub tag-fits : {ml? : Bool} {seq text ml : List ℕ} {gs : List Group} → TagRead ml? seq text ml gs → AllFit ml? seq gs
 tag-fits {text = text} t = groups-fit (t .groups) (closed-by-lacks semicolon text) (closed-by-every isAscii semicolon text (t .low))
 
@@ -199,7 +198,7 @@ groups-denied {ml?} {seq} named (a-group {g = g} {gs = ps} {ml = ml} {left = lef
     rw (long, spots-denied (deniedTo h named) r, need-out, need-out, groups-denied named rs)
     (need-both (every (allowed (deniedTo h named)) ss) (every (mayDrop named) rest) 10 rest _)
 
--- Of a tag that can be read, the drop of some places is refused with 10 just where a group that doesn't end in '?' lists a call there.
+-- For a tag that can be read, the drop of some places is refused with 10 exactly when a group whose header doesn't end in '?' lists a call there.
 pub tag-denied : {ml? : Bool} {seq text ml : List ℕ} {gs : List Group} (named : ℕ → Bool) → TagRead ml? seq text ml gs
     → read ml? named seq text ml ≡ need (every (mayDrop named) gs) 10 (done gs)
 unfolding read

@@ -1,4 +1,4 @@
--- What the reader accepts means what SAMtags says: the text is spelled by pieces, and the listings are the calls that SAMtags gives for them.
+-- What the reader accepts means what SAMtags says: the text is spelled by pieces, and the listings are the calls that SAMtags gives for these pieces.
 -- Assumes nothing.
 use mathlib.Core.Path.{_≡_, refl, sym, ap, _∙_, subst}
 use Prim.Native.Nat.{ℕ, zero, suc, _+_, _*_, _≤_, _<_}
@@ -208,7 +208,7 @@ listed-headers ml? seq text ml ls e =
     let i = and-then-inv (read ml? nowhere seq text ml) _ ls e in
     rw (← done-inj (i .2)) (groups-headers (tag-read ml? nowhere seq text ml (i .0) (i .1) .groups))
 
--- A tag that is read: the pieces that spell its text, and that its listings are what SAMtags says of them. What a header means is the reader's:
+-- A tag that is read: some pieces spell its text, and its listings are what SAMtags says of these pieces. The meaning of a header is the reader's:
 -- its base in upper case, and its values per base.
 pub record Read-means (ml? : Bool) (seq text ml : List ℕ) (ls : List Listing) : Type 0 where
   pub pieces : List Piece
@@ -217,7 +217,7 @@ pub record Read-means (ml? : Bool) (seq text ml : List ℕ) (ls : List Listing) 
   pub headers : map (λ (l : Listing). l .header) ls ≡ map (λ (p : Piece). p .header) pieces
   pub means : TagMeans seq (cond ml? ml []) (map (entriesOf baseOf (valuesIf ml?)) pieces) (callsOf ls)
 
--- What the reader accepts, on an upper-case SEQ and with no group on U, lists exactly the calls that SAMtags gives.
+-- A tag that the reader accepts, on an upper-case SEQ and with no group on U, lists exactly the calls that SAMtags gives.
 pub reading-means : (ml? : Bool) (seq text ml : List ℕ) (ls : List Listing) → lists ml? seq text ml ≡ done ls
     → upperCase seq ≡ true → noU ls ≡ true → Read-means ml? seq text ml ls
 unfolding lists

@@ -40,7 +40,7 @@ read-spots k n (call p vs ∷ ss) places ml e s =
     let long : leb k (length (vs ++ more)) ≡ true = le-leb k (length (vs ++ more)) (omega (arith, length-append vs more)) in
     rw (digits-number n, value-digits n, e, append-assoc vs (concatMap valuesOf ss) ml, long, take-at vs more, drop-at vs more, read-spots k 0 ss (map placeOf ss) ml refl (and-true-r (eqb (length vs) k) (every (sized k) ss) s))
 
--- A group that fits SEQ: its header is one that can be read, its spots stand at the tracked places, each call has its values.
+-- A group that fits SEQ: its header is one that can be read, its spots are at the tracked places, each call has its values.
 pub record Fits (ml? : Bool) (seq : List ℕ) (g : Group) : Type 0 where
   pub long : leb 2 (length (g .header)) ≡ true
   pub no-comma : lacks comma (g .header) ≡ true

@@ -1,4 +1,4 @@
--- The room lent for a tag: 12 where text or ML has none, the tag where both have. Without an ML the room for one is not looked at.
+-- The room lent for a tag: 12 if text or ML has no room, and the tag if both have. Without ML the room for ML is ignored.
 -- Assumes nothing.
 use mathlib.Core.Path.{_≡_, refl}
 use Prim.Native.Nat.{ℕ, _≤_, _<_}

@@ -1,4 +1,4 @@
--- An edit is only ever asked about the tracked places of SEQ: two that answer alike there edit every tag alike.
+-- An edit is only used at the tracked places of SEQ: two edits that agree there edit every tag alike.
 -- Assumes nothing.
 use mathlib.Core.Path.{_≡_, refl, ap, _∙_}
 use Prim.Native.Nat.{ℕ, zero, suc}
@@ -97,7 +97,7 @@ module _ (e d : Edit) (ml? : Bool) (seq : List ℕ) (held : (b : ℕ) → Agree 
       (ap (filter (λ (x : Spot). e .stillHeld b (placeOf x))) (unlist-same (e .dropped) (d .dropped) (g .spots) there)
       ∙ at-places (e .stillHeld b) (d .stillHeld b) (map (unlist (d .dropped)) (g .spots)) here)
 
-  -- edits that answer alike at every tracked place
+  -- edits that agree at every tracked place
   pub edited-same : (text ml : List ℕ) → edited e ml? seq text ml ≡ edited d ml? seq text ml
   unfolding edited
   edited-same text ml = rw (read-same ml? (e .dropped) (d .dropped) seq dropped text ml) (go (read ml? (d .dropped) seq text ml) refl)

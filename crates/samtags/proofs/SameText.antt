@@ -1,4 +1,4 @@
--- A change of spots that keeps calls calls leaves the text as it is, and one that keeps their values leaves ML.
+-- A change of spots that keeps which spots are calls leaves the text unchanged. A change that keeps the values leaves ML unchanged.
 -- Assumes nothing.
 use mathlib.Core.Path.{_≡_, refl}
 use Prim.Native.Nat.{ℕ, suc}

@@ -1,4 +1,4 @@
--- Demand 3: what a session comes to, over any list of steps.
+-- Demand 3: the result of a session, for any list of steps.
 -- Assumes nothing.
 use mathlib.Core.Path.{_≡_, refl, sym, ap, _∙_, subst}
 use Prim.Native.Nat.{ℕ, zero, suc, _+_, _-_, _≤_, _<_}
@@ -233,7 +233,7 @@ pub record Session-means (ml? : Bool) (opened : Held) (ls : List Listing) (ts : 
       ≡ done (map (leftOfListing (afterSteps ls ts (opening (opened .seq)))) ls)
   pub answers-then : answers ml? ts opened ≡ answersTo ls ts (opening (opened .seq))
 
--- A session that is opened on a SEQ and a tag that lists ls, with and without ML, comes to what it means, whatever its steps.
+-- A session that is opened on a SEQ and a tag that lists ls, with or without ML, results in what it means, whatever its steps.
 pub session-meaning : (ml? : Bool) (opened : Held) (ls : List Listing) → lists ml? (opened .seq) (opened .text) (opened .ml) ≡ done ls
     → (ts : List Step) → Session-means ml? opened ls ts
 unfolding lists opened
@@ -254,7 +254,7 @@ mask-never : (ls : List Listing) (ps : List ℕ) (σ : Sofar) → refuses ls (ma
 unfolding refuses
 mask-never ls ps σ = refl
 
--- the answer to a step is a refusal just where the step is refused
+-- the answer to a step is a refusal exactly when the step is refused
 refused-exactly : (ls : List Listing) (t : Step) (σ : Sofar) → isRefusal (answerTo ls t σ) ≡ refuses ls t σ
 unfolding answerTo
 refused-exactly ls t σ = by-kind t (refuses ls t σ) refl

@@ -1,5 +1,4 @@
--- The skips of spots that come one after the other: what a writer has to know of those that it has passed is how many bare spots stand since the
--- last call.
+-- The skips of spots that follow one another. Of the spots that it has passed, a writer only needs the number of bare spots since the last call.
 -- Assumes nothing.
 use mathlib.Core.Path.{_≡_, refl, ap, _∙_}
 use Prim.Native.Nat.{ℕ, suc, _+_, _*_, _≤_}
@@ -12,7 +11,7 @@ use Rattle.samtags.specs.Spots.{Spot, bare, call}
 use Rattle.samtags.specs.Writing.{skipsFrom, entryText, entriesText}
 use Rattle.samtags.proofs.Decimal.{digits-few}
 
--- how many bare spots stand since the last call, where n stood before
+-- how many bare spots there are since the last call, if n were there before
 abbrev pub bareSince : ℕ → List Spot → ℕ
 bareSince n [] = n
 bareSince n (bare p ∷ ss) = bareSince (suc n) ss

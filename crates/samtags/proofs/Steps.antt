@@ -1,4 +1,4 @@
--- What each edit does to a tag that fits its SEQ, and that the edited tag fits the SEQ that it leaves.
+-- What each edit does to a tag that fits its SEQ. The edited tag fits the edited SEQ.
 -- Assumes nothing.
 use mathlib.Core.Path.{_≡_, refl, sym, ap, _∙_}
 use Prim.Native.Nat.{ℕ, _+_, _-_, _≤_}
@@ -178,7 +178,7 @@ pub map-some : (F : Group → Group) (gs : List Group) → isEmpty gs ≡ false 
 map-some F [] e = e
 map-some F (g ∷ gs) e = refl
 
--- groups that fit, of which there is one, are read back, whatever is lent for an ML that there is not
+-- one or more groups that fit are read back; without ML the row lent for it does not matter
 pub read-back : (ml? : Bool) (seq : List ℕ) (gs : List Group) (lent : List ℕ) → AllFit ml? seq gs → isEmpty gs ≡ false
     → read ml? nowhere seq (written gs .text) (cond ml? (written gs .ml) lent) ≡ done gs
 unfolding written

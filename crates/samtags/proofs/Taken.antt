@@ -1,4 +1,4 @@
--- Of the row lent for ML as much is taken as there is: all of it, or none where there is no ML.
+-- How much of the row lent for ML is used: all of it, or nothing if there is no ML.
 -- Assumes nothing.
 use mathlib.Core.Path.{_≡_, refl}
 use Prim.Native.Nat.{_≤_, ℕ}

@@ -1,4 +1,4 @@
--- The tally: above and below add up to ML's length, and of a tag that was read it is a fold over the calls.
+-- The tally: above and below add up to ML's length. For a tag that was read, the tally is a fold over the calls.
 -- Assumes nothing.
 use mathlib.Core.Path.{_≡_, refl, sym, ap, _∙_}
 use Prim.Native.Nat.{ℕ, _+_}
@@ -17,7 +17,7 @@ use Rattle.samtags.specs.Writing.{mlOf}
 use Rattle.lent.proofs.Outcome.{done-inj, and-then-inv}
 use Rattle.samtags.proofs.Read.{tag-read, tag-used}
 
--- a value is below just where it is not above
+-- a value is below exactly when it is not above
 above-or-below : (v : ℕ) → isBelow v ≡ not (isAbove v)
 above-or-below v =
     test-ext (isBelow v) (not (isAbove v))
@@ -71,7 +71,7 @@ unfolding tallyOf
 tally-calls [] = refl
 tally-calls (c ∷ cs) = tally-append (c .values) (concatMap callValues cs) ∙ ap (tallySum (tallyOf (c .values))) (tally-calls cs)
 
--- of a tag that is read, ML's tally is the fold over the calls
+-- for a tag that is read, ML's tally is the fold over the calls
 pub tally-is-a-fold : (seq text ml : List ℕ) (ls : List Listing) → lists true seq text ml ≡ done ls → tallyOf ml ≡ tallyCalls (allCalls ls)
 unfolding lists
 tally-is-a-fold seq text ml ls e =

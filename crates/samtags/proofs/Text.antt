@@ -1,5 +1,4 @@
--- A text that was put together from headers and fields falls into the same headers and fields; and what holds of each byte of a text holds of
--- each byte of its pieces.
+-- A text that was made of headers and fields falls into the same headers and fields. What holds of each byte of a text holds of each byte of its pieces.
 -- Assumes nothing.
 use mathlib.Core.Path.{_≡_, refl, sym, ap, _∙_}
 use Prim.Native.Nat.{ℕ, _≤_, _<_}
@@ -123,7 +122,7 @@ pub digits-numbers : (ns : List ℕ) → every isNumber (map digits ns) ≡ true
 digits-numbers [] = refl
 digits-numbers (n ∷ ns) = rw (digits-number n) (digits-numbers ns)
 
--- ---- what holds of each byte of a text holds of each byte of its pieces, and of a byte that stands in it
+-- ---- what holds of each byte of a text holds of each byte of its pieces, and of a byte in it
 
 pub among-every : (t : ℕ → Bool) (xs : List ℕ) (b : ℕ) → every t xs ≡ true → among xs b ≡ true → t b ≡ true
 among-every t [] b h e = cc

@@ -1,4 +1,4 @@
--- Building a tag: which bases are listed, with which skips and values, from SEQ, evidence and chemistry; and the tags of two strands joined.
+-- Building a tag from SEQ, evidence and chemistry: which bases are listed, with which skips and values. Also the joined tag of two strands.
 -- Assumes nothing.
 use Prim.Native.Nat.{ℕ, suc, _+_, _*_, _/_, min}
 use mathlib.Core.Bool.{Bool, true, false, cond, not, _&&_}
@@ -19,7 +19,7 @@ use Rattle.samtags.specs.Spots.{Spot, bare, call, Group, Call, callsIn, 
 use Rattle.samtags.specs.Writing.{Tag, written}
 use Rattle.samtags.specs.Edits.{inRoom}
 
--- the evidence of a strand, a column each: whether the place is informative (nonzero is yes), and how many reads show the unconverted and the
+-- the evidence of a strand in three columns: whether the place is informative (nonzero is yes), and how many reads show the unconverted and the
 -- converted base
 pub record Evidence : Type 0 where
   pub informative : List ℕ
@@ -29,27 +29,27 @@ pub record Evidence : Type 0 where
 abbrev pub columns : List ℕ → List ℕ → List ℕ → Evidence
 columns informative unconverted converted = record { informative = informative; unconverted = unconverted; converted = converted }
 
--- the reads that speak for methylation: in EM-Seq what stayed unconverted, in TAPs what was converted
+-- how many reads are evidence for methylation: in EM-Seq those that stayed unconverted, in TAPs those that were converted
 abbrev pub numerator : MethylationMode → ℕ → ℕ → ℕ
 numerator Disabled u c = 0
 numerator EmSeq u c = u
 numerator Taps u c = c
 
--- ML's value N stands for probabilities from N/256 up to (N+1)/256, so a probability of 1 is 255
+-- ML value N means a probability from N/256 up to (N+1)/256, so a probability of 1 is 255
 unfoldable pub mlValue : ℕ → ℕ → ℕ
 mlValue speaking total = min 255 (256 * speaking / total)
 
--- the ML value of a call, where there is one: the place is informative and a read was counted there
+-- the ML value of a call; there is a call if the place is informative and a read was counted there
 unfoldable pub called : MethylationMode → ℕ → ℕ → ℕ → Option ℕ
 unfolding mlValue
 called mode informative u c = cond (not (eqb informative 0) && not (eqb (u + c) 0)) (some (mlValue (numerator mode u c) (u + c))) none
 
--- that of the call at a place
+-- the ML value of the call at a place
 unfoldable pub calledAt : MethylationMode → Evidence → ℕ → Option ℕ
 unfolding called
 calledAt mode ev p = called mode (getD (ev .informative) p 0) (getD (ev .unconverted) p 0) (getD (ev .converted) p 0)
 
--- a base of the pattern's letter, listed where the evidence gives a call
+-- a base of the pattern's letter: a call if the evidence gives one, else bare
 abbrev pub spotAt : Option ℕ → ℕ → Spot
 spotAt none p = bare p
 spotAt (some v) p = call p (v ∷ [])
@@ -58,7 +58,7 @@ spotAt (some v) p = call p (v ∷ [])
 abbrev pub headerOf : ConversionPattern → List ℕ
 headerOf p = letterOf p ∷ signOf p ∷ ascii "m?"
 
--- a strand's group; SEQ's letters match in any case
+-- a strand's group; SEQ's letters match in upper or lower case
 unfoldable pub strandGroup : MethylationMode → ConversionPattern → Evidence → List ℕ → Group
 unfolding calledAt sameInAnyCase
 strandGroup mode p ev seq = record {
@@ -71,7 +71,7 @@ hasCalls g = not (isEmpty (callsIn (g .spots)))
 
 -- ---- the public calls
 
--- SEQ and the columns are as long as the domain allows
+-- the lengths of SEQ and of the columns are within the domain
 abbrev pub evidenceInDomain : Evidence → List ℕ → Bool
 evidenceInDomain ev seq =
     leb (length seq) 16000 && leb (length (ev .informative)) 16000 && leb (length (ev .unconverted)) 16000
@@ -83,7 +83,7 @@ evidenceAgrees ev seq =
     eqb (length (ev .informative)) (length seq) && eqb (length (ev .unconverted)) (length seq)
     && eqb (length (ev .converted)) (length seq)
 
--- a strand's tag, whatever the room: 1, 2, 20 where there is no call or no chemistry
+-- a strand's tag, without regard to room: 1, 2, or 20 if there is no call or no chemistry
 unfoldable pub builtTag : MethylationMode → ConversionPattern → Evidence → List ℕ → Outcome Tag
 unfolding strandGroup written
 builtTag mode p ev seq =
@@ -93,7 +93,7 @@ builtTag mode p ev seq =
     (need (isEnabled mode && hasCalls g) 20
     (done (written (g ∷ [])))))
 
--- into the room lent for it: last 12. Without ML the room for one is not looked at.
+-- the tag in the room lent for it: last 12. Without ML the room for ML is ignored.
 unfoldable pub buildTag : Bool → MethylationMode → ConversionPattern → Evidence → List ℕ → ℕ → ℕ → Outcome Tag
 unfolding builtTag
 buildTag ml? mode p ev seq t m = inRoom ml? t m (builtTag mode p ev seq)
@@ -111,28 +111,28 @@ convertsC GToA = false
 abbrev pub isCToT : Strand → Bool
 isCToT s = convertsC (s .pattern)
 
--- C to T first, and strands of one pattern in the given order
+-- strands C to T come first; strands of the same pattern stay in the given order
 abbrev pub inJoinOrder : List Strand → List Strand
 inJoinOrder strands = filter isCToT strands ++ filter (λ s. not (isCToT s)) strands
 
 abbrev pub groupOf : MethylationMode → List ℕ → Strand → Group
 groupOf mode seq s = strandGroup mode (s .pattern) (s .evidence) seq
 
--- the groups of the joined tag: of the strands in order those that have a call; none where there is no chemistry
+-- the groups of the joined tag: of the ordered strands those that have a call; no group without a chemistry
 unfoldable pub joinedGroups : MethylationMode → List Strand → List ℕ → List Group
 unfolding strandGroup
 joinedGroups mode strands seq = cond (isEnabled mode) (filter hasCalls (map (groupOf mode seq) (inJoinOrder strands))) []
 
--- the joined tag, which for one strand is that strand's own; no call at all gives an empty text and an empty ML
+-- the joined tag; for one strand it is that strand's own tag. If there is no call at all, text and ML are empty
 unfoldable pub joinedTag : MethylationMode → List Strand → List ℕ → Tag
 unfolding joinedGroups written
 joinedTag mode strands seq = written (joinedGroups mode strands seq)
 
--- a strand's own tag, which is empty where it has no call
+-- a strand's own tag; it is empty if the strand has no call
 abbrev pub ownTag : MethylationMode → ConversionPattern → Evidence → List ℕ → Tag
 ownTag mode p ev seq = joinedTag mode (record { pattern = p; evidence = ev } ∷ []) seq
 
--- ---- the calls that the evidence gives, without a tag: at each place whose base is the pattern's letter and where there is a call, its value
+-- ---- the calls that the evidence gives, without a tag: place and value of each call at a base that is the pattern's upper-case letter
 
 abbrev pub callAt : Bool → Option ℕ → ℕ → List Call → List Call
 callAt false v p cs = cs

@@ -1,4 +1,4 @@
--- Decimal numbers: what a field says, and how a number is written.
+-- Decimal numbers: the number that a field spells, and the digits of a number.
 -- Assumes nothing.
 use Prim.Native.Nat.{ℕ, zero, suc, _+_, _-_, _*_, _/_, _%_}
 use mathlib.Core.Bool.{Bool, cond, not, _&&_}
@@ -12,7 +12,7 @@ unfoldable pub isNumber : List ℕ → Bool
 unfolding isDigit
 isNumber field = not (isEmpty field) && every isDigit field
 
--- the number that the digits spell after a front that spells n
+-- the number that the digits spell if the digits before them spell n
 abbrev pub valueFrom : ℕ → List ℕ → ℕ
 valueFrom n [] = n
 valueFrom n (d ∷ ds) = valueFrom (10 * n + (d - 48)) ds
@@ -21,7 +21,7 @@ valueFrom n (d ∷ ds) = valueFrom (10 * n + (d - 48)) ds
 unfoldable pub value : List ℕ → ℕ
 value field = valueFrom 0 field
 
--- the digits of n, of which there are at most k + 1
+-- the digits of n, at most k + 1 of them
 unfoldable pub digitsIn : ℕ → ℕ → List ℕ
 digitsIn zero n = (48 + n % 10) ∷ []
 digitsIn (suc k) n =

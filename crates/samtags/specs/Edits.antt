@@ -1,4 +1,4 @@
--- The three edits: what each does to a group, then to a tag, then as a public call in its own order of refusals.
+-- The three edits: on a group, then on a tag, then as public calls, each with its own order of refusals.
 -- Assumes nothing.
 use Prim.Native.Nat.{ℕ, _+_, _-_}
 use mathlib.Core.Bool.{Bool, true, false, cond, not, _&&_, _||_}
@@ -14,7 +14,7 @@ use Rattle.samtags.specs.Spots.{Spot, bare, call, placeOf, Group, holds}
 use Rattle.samtags.specs.Reading.{nowhere, read, inDomain}
 use Rattle.samtags.specs.Writing.{Tag, written}
 
--- An edit says which bases of a kind are still bases of that kind afterwards, and the calls of which places are dropped.
+-- An edit says which bases of a kind remain bases of that kind, and at which places the calls are dropped.
 pub record Edit : Type 0 where
   pub stillHeld : ℕ → ℕ → Bool
   pub dropped : ℕ → Bool
@@ -24,7 +24,7 @@ abbrev pub unlist : (ℕ → Bool) → Spot → Spot
 unlist dropped (bare p) = bare p
 unlist dropped (call p vs) = cond (dropped p) (bare p) (call p vs)
 
--- of the spots those stay that are still bases of the group's kind: one that is not counts in no skip
+-- the spots that are still bases of the group's kind stay; the others count in no skip
 unfoldable pub changed : Edit → Group → Group
 unfolding baseOf
 changed e g =
@@ -33,23 +33,23 @@ changed e g =
       spots = filter (λ s. e .stillHeld (baseOf (g .header)) (placeOf s)) (map (unlist (e .dropped)) (g .spots));
     }
 
--- a tag that is read, changed and written again; a drop under a header that doesn't end in '?' is refused as it is read
+-- a tag is read, changed and written again; a drop under a header that doesn't end in '?' is refused while reading
 unfoldable pub edited : Edit → Bool → List ℕ → List ℕ → List ℕ → Outcome Tag
 unfolding read changed written
 edited e ml? seq text ml = andThen (read ml? (e .dropped) seq text ml) (λ gs. done (written (map (changed e) gs)))
 
 -- ---- the three kinds of edit
 
--- SEQ became `after`, as long as before
+-- SEQ became `after`, which is as long as SEQ was
 unfoldable pub maskedTo : List ℕ → Edit
 unfolding holds
 maskedTo after = record { stillHeld = λ b p. holds b (getD after p 0); dropped = nowhere }
 
--- the calls at the places go, SEQ stays
+-- the calls at the places are dropped, SEQ stays
 unfoldable pub droppingAt : List ℕ → Edit
 droppingAt places = record { stillHeld = λ b p. true; dropped = among places }
 
--- SEQ became `after`, which begins at place lo
+-- SEQ became `after`, which begins at place lo of the old SEQ
 unfoldable pub cutTo : ℕ → List ℕ → Edit
 unfolding holds
 cutTo lo after = record {
@@ -59,11 +59,11 @@ cutTo lo after = record {
 
 -- ---- the public calls
 
--- the finished tag fits the room lent for text and for ML; without an ML the room for one is not looked at
+-- the finished tag fits the room lent for text and for ML; without ML the room for ML is ignored
 abbrev pub inRoom : Bool → ℕ → ℕ → Outcome Tag → Outcome Tag
 inRoom ml? t m o = andThen o (λ r. need (leb (length (r .text)) t && cond ml? (leb (length (r .ml)) m) true) 12 (done r))
 
--- Masking: 1, 2, then the reader's numbers, last 12. A mask that changes nothing is an edit like any other, and respells.
+-- Masking: 1, 2, then the reader's numbers, last 12. A mask that changes nothing is an edit like any other: it respells the tag.
 unfoldable pub maskTag : Bool → List ℕ → List ℕ → List ℕ → List ℕ → ℕ → ℕ → Outcome Tag
 unfolding edited maskedTo
 maskTag ml? before after text ml t m =
@@ -89,22 +89,22 @@ sameBytes (x ∷ xs) (y ∷ ys) = eqb x y && sameBytes xs ys
 abbrev pub isMasked : ℕ → Bool
 isMasked x = eqb x letterN || eqb x 110
 
--- after lies at the front of before: each of its bytes is the byte that stood there, or masked
+-- `after` matches the front of `before`: each of its bytes is the byte at the same place, or masked
 abbrev pub liesIn : List ℕ → List ℕ → Bool
 liesIn [] before = true
 liesIn (x ∷ xs) [] = false
 liesIn (x ∷ xs) (y ∷ ys) = (eqb x y || isMasked x) && liesIn xs ys
 
--- where the window starts: at 0 where nothing was cut off, whatever start is given; else where it is said to, if it is known
+-- the start of the window: 0 if nothing was cut off, whatever start is given; else the given start, if it is known
 abbrev pub windowStart : Option ℕ → List ℕ → List ℕ → Option ℕ
 windowStart start before after = cond (eqb (length before) (length after)) (some 0) start
 
--- f of a known start, or 11
+-- f of a known start, or 11 if the start is unknown
 abbrev pub withStart : Option ℕ → (ℕ → Outcome Tag) → Outcome Tag
 withStart none f = refuse 11
 withStart (some lo) f = f lo
 
--- Cutting: 1, 21 where nothing changed, 11 where after is no window of before or its start is unknown, then the reader's numbers, last 12.
+-- Cutting: 1, 21 if nothing changed, 11 if `after` is no window of `before` or its start is unknown, then the reader's numbers, last 12.
 unfoldable pub cutTag : Bool → Option ℕ → List ℕ → List ℕ → List ℕ → List ℕ → ℕ → ℕ → Outcome Tag
 unfolding edited cutTo
 cutTag ml? start before after text ml t m =

@@ -1,5 +1,5 @@
--- What a session comes to: SEQ, what the tag lists, and every answer, as functions of the opening and the steps alone. Nothing here reads or
--- writes a tag. Places are those of the opening SEQ, unless it is said otherwise.
+-- The meaning of a session: SEQ, the calls that the tag lists, and every answer, as functions of the opening and the steps alone. Nothing here reads
+-- or writes a tag. Places are those of the opening SEQ, unless stated otherwise.
 -- Assumes nothing.
 use Prim.Native.Nat.{ℕ, _+_, _-_}
 use mathlib.Core.Bool.{Bool, false, cond, not, _&&_, _||_}
@@ -12,7 +12,7 @@ use Rattle.samtags.specs.Text.{baseOf, endsInQuestion}
 use Rattle.samtags.specs.Spots.{Call, Listing}
 use Rattle.samtags.specs.Session.{Step, mask, dropCalls, cut, masked, window}
 
--- the steps so far: `front` bases are off the front and `size` are left; these places were masked, and the calls at these were dropped
+-- the steps so far: `front` bases were cut off the front and `size` bases are left; `masks` are the masked places, at `drops` the calls were dropped
 pub record Sofar : Type 0 where
   pub front : ℕ
   pub size : ℕ
@@ -27,7 +27,7 @@ opening seq = record { front = 0; size = length seq; masks = []; drops = [] }
 abbrev pub inside : ℕ → ℕ → ℕ → Bool
 inside a n p = leb a p && ltb p (a + n)
 
--- the base b at the place is neither cut off nor masked; a group on any base outlives masking
+-- the base b at the place is neither cut off nor masked; a group on any base ('N') survives masking
 abbrev pub baseStays : Sofar → ℕ → ℕ → Bool
 baseStays σ b p = inside (σ .front) (σ .size) p && (eqb b letterN || not (among (σ .masks) p))
 
@@ -35,22 +35,22 @@ baseStays σ b p = inside (σ .front) (σ .size) p && (eqb b letterN || not (amo
 abbrev pub callStays : Sofar → ℕ → Call → Bool
 callStays σ b c = baseStays σ b (c .place) && not (among (σ .drops) (c .place))
 
--- the call, a bases nearer to the front
+-- the call with its place reduced by a
 abbrev pub nearer : ℕ → Call → Call
 nearer a c = record { place = c .place - a; values = c .values }
 
--- what is left of a group's listing: the calls that stay, each at its old place less the bases cut before it
+-- a group's listing after the steps: the calls that stay, each at its old place minus the number of bases cut before it
 unfoldable pub leftOfListing : Sofar → Listing → Listing
 leftOfListing σ l = record {
   header = l .header;
   calls = map (nearer (σ .front)) (filter (callStays σ (baseOf (l .header))) (l .calls));
 }
 
--- what is left of SEQ
+-- SEQ after the steps
 unfoldable pub leftOfSeq : Sofar → List ℕ → List ℕ
 leftOfSeq σ seq = window (σ .front) (σ .size) (masked (among (σ .masks)) seq)
 
--- places that a step counts in the SEQ that it finds
+-- places that a step counts in its own SEQ, as places of the opening SEQ
 abbrev pub inOpening : Sofar → List ℕ → List ℕ
 inOpening σ ps = map (λ p. σ .front + p) ps
 
@@ -58,14 +58,14 @@ inOpening σ ps = map (λ p. σ .front + p) ps
 unfoldable pub listsUnmarked : List ℕ → Listing → Bool
 listsUnmarked ps l = any (λ (c : Call). among ps (c .place)) (l .calls) && not (endsInQuestion (l .header))
 
--- a step is refused: a drop of a listed call under a header that doesn't end in '?', or a cut of more than SEQ holds
+-- a step is refused if it drops a listed call under a header that doesn't end in '?', or if it cuts more than SEQ holds
 unfoldable pub refuses : List Listing → Step → Sofar → Bool
 unfolding listsUnmarked leftOfListing
 refuses ls (mask ps) σ = false
 refuses ls (dropCalls ps) σ = any (listsUnmarked ps) (map (leftOfListing σ) ls)
 refuses ls (cut f b) σ = ltb (σ .size) (f + b)
 
--- the steps so far and one that is not refused
+-- the steps so far and one more, which is not refused
 abbrev pub taken : Step → Sofar → Sofar
 taken (mask ps) σ = record { front = σ .front; size = σ .size; masks = σ .masks ++ inOpening σ ps; drops = σ .drops }
 taken (dropCalls ps) σ = record { front = σ .front; size = σ .size; masks = σ .masks; drops = σ .drops ++ inOpening σ ps }
@@ -82,7 +82,7 @@ reason (mask ps) = 0
 reason (dropCalls ps) = 10
 reason (cut f b) = 11
 
--- a cut of nothing is no refusal, and has a number of its own
+-- a cut of nothing is no refusal; it has its own number
 abbrev pub cutsNothing : Step → Bool
 cutsNothing (mask ps) = false
 cutsNothing (dropCalls ps) = false

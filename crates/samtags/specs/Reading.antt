@@ -1,5 +1,5 @@
--- Reading a tag: the groups of an MM text against SEQ and ML, or the number of the first thing that is wrong, from the left. `ml?` says whether
--- there is an ML: without one no value is taken, and 8 and 9 do not arise.
+-- Reading a tag: the groups of an MM text with its SEQ and ML, or the number of the first error from the left. `ml?` says whether there is an ML:
+-- without ML no value is taken, and 8 and 9 do not occur.
 -- Assumes nothing.
 use Prim.Native.Nat.{ℕ, suc, _+_}
 use mathlib.Core.Bool.{Bool, true, false, cond, not, _&&_}
@@ -17,8 +17,8 @@ use Rattle.samtags.specs.Spots.{Spot, bare, call, Group, Call, Listing, 
 abbrev pub nowhere : ℕ → Bool
 nowhere p = false
 
--- One entry, over the tracked places that are left and with n ML values left: its place, and the places after it. Its number is how many
--- places to pass over; it takes k values. At a denied place no call may be listed.
+-- Reads one entry, given the tracked places that are left and n, the number of ML values left: its place, and the places after it. The entry's number
+-- is how many places to pass over; the entry takes k values. At a denied place no call may be listed.
 unfoldable pub readEntry : ℕ → (ℕ → Bool) → List ℕ → List ℕ → ℕ → Outcome (ℕ × List ℕ)
 unfolding isNumber value
 readEntry k denied field places n =
@@ -28,7 +28,7 @@ readEntry k denied field places n =
     (need (not (denied p)) 10
     (done (p, rest)))))
 
--- A group's entries, over the tracked places and the ML values that are left: its spots, and the values left after them.
+-- Reads a group's entries, given the tracked places and the ML values that are left: its spots, and the values left after them.
 unfoldable pub readSpots : ℕ → (ℕ → Bool) → List (List ℕ) → List ℕ → List ℕ → Outcome (List Spot × List ℕ)
 unfolding readEntry
 readSpots k denied [] places ml = done (map bare places, ml)
@@ -37,16 +37,16 @@ readSpots k denied (f ∷ fs) places ml =
     andThen (readSpots k denied fs (e .1) (drop k ml)) (λ r.
     done (map bare (take (value f) places) ++ call (e .0) (take k ml) ∷ r .0, r .1)))
 
--- the values that a listed base takes
+-- the number of ML values that a listed base takes
 unfoldable pub valuesIf : Bool → List ℕ → ℕ
 unfolding valuesPer
 valuesIf ml? header = cond ml? (valuesPer header) 0
 
--- where a group with this header may list no call, if the calls at the named places are to be dropped: its silence would then say "unmodified"
+-- a group with this header may list no call at the place, if the calls at the named places are to be dropped: dropping it would say "unmodified"
 abbrev pub deniedTo : List ℕ → (ℕ → Bool) → ℕ → Bool
 deniedTo header named p = named p && not (endsInQuestion header)
 
--- One group, and the ML values left after it.
+-- Reads one group: the group, and the ML values left after it.
 unfoldable pub readGroup : Bool → (ℕ → Bool) → List ℕ → List ℕ → List ℕ → Outcome (Group × List ℕ)
 unfolding readSpots valuesIf baseOf endsInQuestion tracked
 readGroup ml? named seq group ml =
@@ -55,7 +55,7 @@ readGroup ml? named seq group ml =
     (andThen (readSpots (valuesIf ml? header) (deniedTo header named) (ledBy comma group) (tracked (baseOf header) seq) ml) (λ r.
     done (record { header = header; spots = r .0 }, r .1)))
 
--- The groups from the left; after the last no ML value may be left over.
+-- Reads the groups from the left; after the last one no ML value may be left over.
 unfoldable pub readGroups : Bool → (ℕ → Bool) → List ℕ → List (List ℕ) → List ℕ → Outcome (List Group)
 unfolding readGroup
 readGroups ml? named seq [] ml = need (isEmpty ml) 9 (done [])
@@ -64,7 +64,7 @@ readGroups ml? named seq (g ∷ gs) ml =
     andThen (readGroups ml? named seq gs (r .1)) (λ rest.
     done (r .0 ∷ rest)))
 
--- A whole text. Only a group whose header ends in '?' may list a call at a named place.
+-- Reads a whole text. Only a group whose header ends in '?' may list a call at a named place.
 unfoldable pub read : Bool → (ℕ → Bool) → List ℕ → List ℕ → List ℕ → Outcome (List Group)
 unfolding readGroups
 read ml? named seq text ml =
@@ -79,7 +79,7 @@ lists ml? seq text ml = andThen (read ml? nowhere seq text ml) (λ gs. done (map
 
 -- ---- the public reader
 
--- SEQ, text and ML are as long as the domain allows; an ML that there is not is not looked at
+-- the lengths of SEQ, text and ML are within the domain; without ML the ML row is ignored
 abbrev pub inDomain : Bool → List ℕ → List ℕ → List ℕ → Bool
 inDomain ml? seq text ml = leb (length seq) 16000 && leb (length text) 65536 && cond ml? (leb (length ml) 65536) true
 
@@ -88,7 +88,7 @@ unfoldable pub readTag : Bool → List ℕ → List ℕ → List ℕ → Outcome
 unfolding lists
 readTag ml? seq text ml = need (inDomain ml? seq text ml) 1 (lists ml? seq text ml)
 
--- ---- the call list: a row for each call, with its group counted from 1, its place, and where its values start in ML (0 without)
+-- ---- the call list: a row for each call, with its group counted from 1, its place, and the index of its first value in ML (0 without ML)
 
 pub record Row : Type 0 where
   pub group : ℕ
@@ -111,7 +111,7 @@ rowsFrom g s (l ∷ ls) = rowsOf g s (l .calls) ++ rowsFrom (suc g) (s + valuesI
 unfoldable pub callList : List Listing → List Row
 callList ls = rowsFrom 1 0 ls
 
--- ---- the tally: each ML value counts once, above from 128 on, else below
+-- ---- the tally: each ML value counts once, above if it is at least 128, else below
 
 pub record Tally : Type 0 where
   pub above : ℕ
@@ -126,7 +126,7 @@ isBelow v = ltb v 128
 unfoldable pub tallyOf : List ℕ → Tally
 tallyOf ml = record { above = length (filter isAbove ml); below = length (filter isBelow ml) }
 
--- the tally as a public call, which always takes an ML
+-- the tally as a public call; it always takes an ML
 unfoldable pub tallyTag : List ℕ → List ℕ → List ℕ → Outcome Tally
 unfolding readTag tallyOf
 tallyTag seq text ml = andThen (readTag true seq text ml) (λ ls. done (tallyOf ml))

@@ -1,5 +1,4 @@
--- The edit session: its three steps on what it holds, then on the buffers that it was lent, and a run of steps with memory handed on as each
--- left it.
+-- The edit session: its three steps on the session's contents, then on the lent buffers. Also a run of steps, each on the memory that the last one left.
 -- Assumes nothing.
 use Prim.Native.Nat.{ℕ, suc, _+_, _-_}
 use mathlib.Core.Bool.{Bool, true, cond, not, _&&_}
@@ -29,7 +28,7 @@ pub record Held : Type 0 where
   pub text : List ℕ
   pub ml : List ℕ
 
--- N at the places, counted from i, that pass the test
+-- N at the places that pass the test; the first place is i
 abbrev pub maskFrom : ℕ → (ℕ → Bool) → List ℕ → List ℕ
 maskFrom i t [] = []
 maskFrom i t (x ∷ xs) = cond (t i) letterN x ∷ maskFrom (suc i) t xs
@@ -41,11 +40,11 @@ masked t seq = maskFrom 0 t seq
 abbrev pub window : ℕ → ℕ → List ℕ → List ℕ
 window a n seq = take n (drop a seq)
 
--- the new SEQ with the edited tag; an ML that there is not stays as it is
+-- the new SEQ with the edited tag; without ML the ML stays unchanged
 abbrev pub heldWith : Bool → Held → List ℕ → Outcome Tag → Outcome Held
 heldWith ml? s seq o = andThen o (λ r. done (record { seq = seq; text = r .text; ml = cond ml? (r .ml) (s .ml) }))
 
--- a step's outcome: a refusal or 21, or what the session then holds
+-- a step's outcome: a refusal or 21, or the new contents of the session
 unfoldable pub stepped : Bool → Step → Held → Outcome Held
 unfolding edited maskedTo droppingAt cutTo
 stepped ml? (mask ps) s =
@@ -59,7 +58,7 @@ stepped ml? (cut front back) s =
     (heldWith ml? s after (edited (cutTo front after) ml? (s .seq) (s .text) (s .ml))))
 
 module _ {A : Type 0} where
-  -- a refused step, or 21, leaves everything as it was
+  -- a refused step, or 21, changes nothing
   abbrev pub afterStep : A → Outcome A → A
   afterStep s (refused r) = s
   afterStep s (done s′) = s′
@@ -91,7 +90,7 @@ pub record Memory : Type 0 where
 abbrev pub heldIn : Memory → Held
 heldIn m = record { seq = take (m .lengths .seq) (m .seq); text = take (m .lengths .text) (m .text); ml = take (m .lengths .ml) (m .ml) }
 
--- the new contents at the front of each buffer, and bytes past the new lengths as found; an ML that there is not stays as it is
+-- the new contents at the front of each buffer; bytes after the new lengths are unchanged. Without ML the ML buffer and its length are unchanged
 abbrev pub stored : Bool → Memory → Held → Memory
 stored ml? m s = record {
   seq = over (s .seq) (m .seq);
@@ -110,7 +109,7 @@ lengthsInBuffers ml? m =
     leb (m .lengths .seq) (length (m .seq)) && leb (m .lengths .text) (length (m .text))
     && cond ml? (leb (m .lengths .ml) (length (m .ml))) true
 
--- the outcome where the lengths are in order, else 1 or 2
+-- the outcome if the lengths are in order, else 1 or 2
 abbrev pub inOrder : {A : Type 0} → Bool → Memory → Outcome A → Outcome A
 inOrder ml? m o = need (lengthsInDomain ml? (m .lengths)) 1 (need (lengthsInBuffers ml? m) 2 o)
 
@@ -119,7 +118,7 @@ unfoldable pub openSession : Bool → Memory → Outcome (List Listing)
 unfolding lists over
 openSession ml? m = inOrder ml? m (lists ml? (heldIn m .seq) (heldIn m .text) (heldIn m .ml))
 
--- a step on the buffers, whoever wrote what stands in them
+-- a step on the buffers, whoever wrote their contents
 unfoldable pub stepInMemory : Bool → Step → Memory → Outcome Memory
 unfolding stepped over
 stepInMemory ml? t m = inOrder ml? m (andThen (stepped ml? t (heldIn m)) (λ s. done (stored ml? m s)))

@@ -1,5 +1,5 @@
--- What a group says of a SEQ: a row of spots, one for each base of the group's kind, in order, each bare or a call with its ML values. A skip is
--- nothing but a count of bare spots.
+-- A group read over SEQ: a list of spots, one for each base of the group's kind, in order. Each spot is bare or a call with its ML values. A skip is
+-- only a count of bare spots.
 -- Assumes nothing.
 use Prim.Native.Nat.{ℕ, suc}
 use mathlib.Core.Bool.{Bool, cond, _||_}
@@ -44,7 +44,7 @@ listing g = record { header = g .header; calls = callsIn (g .spots) }
 
 -- ---- the bases of a kind
 
--- a byte x of SEQ counts for the base b: every byte where b is 'N', else b itself
+-- a byte x of SEQ counts for the base b: every byte if b is 'N', else only b itself
 unfoldable pub holds : ℕ → ℕ → Bool
 holds b x = eqb b letterN || eqb x b
 

@@ -1,4 +1,4 @@
--- How an MM text falls into groups, a group into a header and entries, and what a header says.
+-- How an MM text splits into groups, how a group splits into a header and entries, and what a header says.
 -- Assumes nothing.
 use Prim.Native.Nat.{ℕ}
 use mathlib.Core.Bool.{Bool, cond}
@@ -9,7 +9,7 @@ use Rattle.lent.specs.Lists.{every, lastOr}
 use Rattle.pattern.specs.Case.{upper}
 use Rattle.samtags.specs.Bytes.{questionMark, isDigit, isMark}
 
--- the bytes before the first c, or all where there is no c
+-- the bytes before the first c, or all if there is no c
 abbrev pub upTo : ℕ → List ℕ → List ℕ
 upTo c [] = []
 upTo c (x ∷ xs) = cond (eqb x c) [] (x ∷ upTo c xs)
@@ -19,12 +19,12 @@ abbrev pub ledBy : ℕ → List ℕ → List (List ℕ)
 ledBy c [] = []
 ledBy c (x ∷ xs) = cond (eqb x c) (upTo c xs ∷ ledBy c xs) (ledBy c xs)
 
--- one more byte in front of the first piece; what no c closes is no piece
+-- one more byte in front of the first piece; bytes that no c closes are no piece
 abbrev pub push : ℕ → List (List ℕ) → List (List ℕ)
 push x [] = []
 push x (p ∷ ps) = (x ∷ p) ∷ ps
 
--- the pieces that c closes: before each c, the bytes since the one before
+-- the pieces that c closes: before each c, the bytes since the previous c
 abbrev pub closedBy : ℕ → List ℕ → List (List ℕ)
 closedBy c [] = []
 closedBy c (x ∷ xs) = cond (eqb x c) ([] ∷ closedBy c xs) (push x (closedBy c xs))
@@ -40,24 +40,24 @@ baseOf header = upper (getD header 0 0)
 unfoldable pub endsInQuestion : List ℕ → Bool
 endsInQuestion header = eqb (lastOr 0 header) questionMark
 
--- one byte more in front of a text without its marks; a mark goes where nothing is left behind it
+-- one more byte in front of a text without end marks; a mark is removed if nothing follows it
 unfoldable pub glue : ℕ → List ℕ → List ℕ
 unfolding isMark
 glue x [] = cond (isMark x) [] (x ∷ [])
 glue x (y ∷ ys) = x ∷ y ∷ ys
 
--- without the '.' and '?' at its end
+-- the text without the '.' and '?' at its end
 unfoldable pub withoutMarks : List ℕ → List ℕ
 unfolding glue
 withoutMarks [] = []
 withoutMarks (x ∷ xs) = glue x (withoutMarks xs)
 
--- the codes: what follows the first two bytes, without the marks at its end
+-- the codes: the bytes after the first two, without the marks at the end
 unfoldable pub codesOf : List ℕ → List ℕ
 unfolding withoutMarks
 codesOf header = withoutMarks (drop 2 header)
 
--- ML values for each listed base: one where the codes are digits or none, else one for each byte of the codes
+-- the number of ML values per listed base: one if the codes are digits or empty, else one for each byte of the codes
 unfoldable pub valuesPer : List ℕ → ℕ
 unfolding codesOf isDigit
 valuesPer header = cond (every isDigit (codesOf header)) 1 (length (codesOf header))

@@ -13,7 +13,7 @@ pub record Tag : Type 0 where
   pub text : List ℕ
   pub ml : List ℕ
 
--- the entries' numbers: for each call, how many bare spots stand between it and the call before. n are passed already.
+-- the entries' numbers: for each call, how many bare spots are between it and the previous call. n were passed already.
 abbrev pub skipsFrom : ℕ → List Spot → List ℕ
 skipsFrom n [] = []
 skipsFrom n (bare p ∷ ss) = skipsFrom (suc n) ss

@@ -1,4 +1,4 @@
--- What one call and one group more do to the columns and the counts of a walk.
+-- Laws of a walk that lists calls: its columns and counts after one more call and after one more group.
 -- Assumes nothing.
 use mathlib.Core.Path.{_≡_, refl, _∙_, ap, sym}
 use Prim.Native.Nat.{_+_, _<_, _≤_, suc, ℕ}

@@ -1,4 +1,4 @@
--- What the cases of the walk's answer mean.
+-- The refusal in the walk's answer.
 -- Assumes nothing.
 use Rattle.lent.specs.Outcome.{refusal}
 use Rattle.lent.specs.declared.Refusal.{Refusal}

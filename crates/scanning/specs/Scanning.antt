@@ -1,5 +1,4 @@
--- What a walk over a tag answers and leaves in the columns, step by step: these are the contracts of private functions, and no one needs to
--- believe them.
+-- The answer of a walk over a tag, and the columns after it, step by step. These are contracts of private functions; no promise rests on them.
 -- Assumes nothing.
 use Prim.Native.Nat.{ℕ, suc, _+_, _≤_}
 use mathlib.Core.Path.{_≡_}
@@ -22,7 +21,7 @@ pub record Columns : Type 0 where
 abbrev pub columns : List ℕ → List ℕ → List ℕ → Columns
 columns groups places starts = record { groups = groups; places = places; starts = starts }
 
--- rows stored one by one from n on, as far as the columns reach
+-- rows stored one by one from index n on, as far as the columns reach
 abbrev pub withRows : Columns → ℕ → List Row → Columns
 withRows c n rows = record {
   groups = sets (c .groups) n (map (λ (r : Row). r .group) rows);
@@ -30,7 +29,7 @@ withRows c n rows = record {
   starts = sets (c .starts) n (map (λ (r : Row). r .start) rows);
 }
 
--- the columns once calls are stored, how many calls they hold, and how many values are used
+-- the columns after calls are stored, how many calls they hold, and how many values are used
 pub record Listed : Type 0 where
   pub rows : Columns
   pub calls : ℕ
@@ -46,7 +45,7 @@ listedSpots g c n u r = (listedOf g c n u (callsIn (r .0)), r .1)
 abbrev pub listedGroup : ℕ → Columns → ℕ → ℕ → Group × List ℕ → Listed × List ℕ
 listedGroup g c n u r = (listedOf g c n u (callsIn (r .0 .spots)), r .1)
 
--- the columns, and how many groups and calls, once all groups are listed
+-- the columns after all groups are listed, and how many groups and calls there are
 pub record Finished : Type 0 where
   pub rows : Columns
   pub groups : ℕ
@@ -60,21 +59,21 @@ finished g c n u gs = record {
   calls = n + length (rowsFrom (suc g) u (map listing gs));
 }
 
--- o is what the answer says of the entries from the separator at c on
+-- the answer agrees with o, the outcome of the entries from the separator at c on
 abbrev pub EntriesScanned : List ℕ → List ℕ → Cursor → Outcome (List Spot × List ℕ) → Columns → Scan → Columns → Type 0
 EntriesScanned text ml c o before (Refused r) after = o ≡ refused r
 EntriesScanned text ml c o before (To d) after =
     (d .at ≡ c .at + length (upTo 59 (drop (c .at) text))) × (d .used ≤ length ml) × (d .group ≡ c .group) × (d .calls ≤ d .at)
     × (onDone (listedSpots (c .group) before (c .calls) (c .used)) o ≡ done (record { rows = after; calls = d .calls; used = d .used }, drop (d .used) ml))
 
--- o is what the answer says of the group at c
+-- the answer agrees with o, the outcome of the group at c
 abbrev pub GroupScanned : List ℕ → List ℕ → Cursor → Outcome (Group × List ℕ) → Columns → Scan → Columns → Type 0
 GroupScanned text ml c o before (Refused r) after = o ≡ refused r
 GroupScanned text ml c o before (To d) after =
     (d .at ≡ c .at + length (upTo 59 (drop (c .at) text)) + 1) × (d .used ≤ length ml) × (d .group ≡ c .group + 1) × (d .calls ≤ d .at)
     × (onDone (listedGroup (c .group + 1) before (c .calls) (c .used)) o ≡ done (record { rows = after; calls = d .calls; used = d .used }, drop (d .used) ml))
 
--- o is what the answer says of all groups
+-- the answer agrees with o, the outcome of all groups
 abbrev pub TagScanned : Outcome (List Group) → Columns → Scan → Columns → Type 0
 TagScanned o before (Refused r) after = o ≡ refused r
 TagScanned o before (To d) after = onDone (finished 0 before 0 0) o ≡ done (record { rows = after; groups = d .group; calls = d .calls })

@@ -1,4 +1,4 @@
-// One walk over a tag from the left, which answers, counts and lists the calls. The columns are written as far as they reach, so nothing is asked of them.
+// One walk over a tag from the left, which answers, counts and lists the calls. The columns are written as far as they reach, so they may be of any length.
 ghost use mathlib.Core.Path.{_≡_};
 ghost use mathlib.Core.Bool.{cond};
 ghost use Prim.Native.Nat.{_+_, _≤_, _<_};
@@ -16,7 +16,7 @@ use places::Entry;
 use places::Place;
 use places::find_entry;
 
-// Where a walk stands: the byte of the text and the value of ML that come next, and how many groups and calls were passed.
+// The state of a walk: the next byte of the text, the next value of ML, and how many groups and calls were passed.
 pub struct Cursor {
     pub at: usize,
     pub used: usize,
@@ -30,7 +30,7 @@ pub enum Scan {
 }
 
 impl Scan {
-    // The refusal, passed on whole.
+    // The refusal, unchanged. `To` gives the number 0.
     pub fn refusal(self) -> Refusal
         ensures { λ r. ⌜ r ≡ scanRefusal self ⌝ }
     {
@@ -41,7 +41,7 @@ impl Scan {
     }
 }
 
-// Stores an entry of a column if the column reaches so far.
+// Stores an entry of a column if the column is long enough.
 fn put(column: &mut [u32], n: usize, v: u32)
     ensures { λ _. ⌜ now (column .exit) ≡ set (now (column .entry)) n v ⌝ }
 {
@@ -50,7 +50,7 @@ fn put(column: &mut [u32], n: usize, v: u32)
     }
 }
 
-// Stores a call's row as the n-th of the list.
+// Stores a call's row at index n of the list.
 fn list_call(
     groups: &mut [u32],
     places: &mut [u32],
@@ -70,7 +70,7 @@ fn list_call(
     put(starts, n, start as u32);
 }
 
-// A group's entries, from the separator at the cursor on, up to the ';' that closes the group.
+// Scans a group's entries, from the separator at the cursor on, up to the ';' that closes the group.
 fn scan_entries(
     seq: &[u8],
     text: &[u8],
@@ -121,7 +121,7 @@ fn scan_entries(
     })
 }
 
-// The group that begins at the cursor, up to and with its ';'.
+// Scans the group that begins at the cursor, up to and including its ';'.
 fn scan_group(
     seq: &[u8],
     text: &[u8],
@@ -167,7 +167,7 @@ fn scan_group(
     })
 }
 
-// All groups of a text that ends in ';'; after the last no value of ML may be left over.
+// Scans all groups of a text that ends in ';'. After the last one no value of ML may be left over.
 pub fn scan_groups(
     seq: &[u8],
     text: &[u8],
@@ -204,7 +204,7 @@ pub fn scan_groups(
     Scan::To(c)
 }
 
-// How many values of the row lent for ML there are: none where there is no ML.
+// How many values of the lent ML row are used: none without ML.
 pub fn values_taken(lent: usize, has_ml: bool) -> usize
     ensures { λ r. ⌜ r ≡ cond «has_ml» lent 0 ⌝ }
 {

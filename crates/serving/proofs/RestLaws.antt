@@ -1,4 +1,4 @@
--- The output as it is put, line by line: one run of stores behind another, the closing lines, and what the next line of the input comes to.
+-- Writing the output line by line: one run of stores behind another, the closing lines, and the answer to the next line of the input.
 -- Assumes nothing.
 use mathlib.Core.Path.{_≡_, refl, sym, ap, subst, _∙_}
 use Prim.Native.Nat.{ℕ, _+_, _≤_, _<_}

@@ -1,5 +1,5 @@
-// The lines of `tagedit`'s input that follow the opening, each answered, and what is held at the end. A support crate: a function here may ask something of
-// its caller (`requires`); the public call stands above, in `transcript`.
+// Answers the lines of `tagedit`'s input that follow the opening, and writes the session's contents at the end. A support crate: its functions may
+// have a `requires`; the public call is in `transcript`.
 ghost use mathlib.Core.Path.{_≡_};
 ghost use Prim.Native.Nat.{_+_, _≤_};
 ghost use lib.ListN.{length, drop};
@@ -11,7 +11,7 @@ ghost use Rattle.serving.specs.Serving.{closing, afterOpening};
 use answering::Answered;
 use stepping::Lengths;
 
-// What is held at the end: SEQ, the MM text, and the ML if one was given.
+// Writes the session's contents at the end: SEQ, the MM text, and the ML if one was given.
 fn put_closing(
     out: &mut [u8],
     at: usize,
@@ -36,7 +36,7 @@ fn put_closing(
     after_mm
 }
 
-// The lines from a place on, each answered, and what is held at the end. A bad line ends the output; a refused step does not.
+// Answers the lines from an index on, and writes the session's contents at the end. A bad line ends the output; a refused step does not.
 pub fn answer_rest(
     input: &[u8],
     from: usize,

@@ -1,5 +1,5 @@
--- The hypothesis of demand 3's theorems can be met: for all rows and every list of steps there is a chain of calls. That each call of it is also what
--- the code does is said by its contract (proofs/Cited), and that there is no other by `step-unique`.
+-- The hypothesis of demand 3's theorems can be met: for all rows and every list of steps there is a chain of calls. Each call's contract (proofs/Cited)
+-- says that the code does what the chain says, and `step-unique` says that no other outcome meets the contract.
 -- Assumes nothing.
 use mathlib.Core.Path.{_≡_, refl}
 use mathlib.Core.Bool.{Bool}
@@ -11,7 +11,7 @@ use Rattle.session.specs.Contracts.{Call, Meets, Rows, inMemory}
 use Rattle.stepping.specs.Steps.{came, leavesMemory, stepSays}
 use Rattle.stepping.specs.declared.Stepped.the-variants as stepped
 
--- whatever a step comes to, a call can answer and leave
+-- a call can answer and leave every outcome of a step
 answered : (w : Rows) (t : Step) (o : Outcome Memory)
     → (c : Call) × (c .asked ≡ t) × (came (stepSays (c .answered)) (c .seq) (c .mm) (c .ml) ≡ leavesMemory (inMemory w) o)
 unfolding leavesMemory

@@ -1,4 +1,4 @@
--- The contract that the kit made of each call's `ensures`, and that the code is proved to meet, gives the proposition of specs/Contracts.
+-- The contract that the kit makes of a public call's `ensures` gives the call's proposition of specs/Contracts. Theorems start from that proposition.
 -- Assumes nothing.
 use Rattle.lent.proofs.Cited.{Gives}
 use Rattle.samtags.specs.Session.{cut, dropCalls, mask}
@@ -22,7 +22,7 @@ pub mask-cited : Gives 4 mask-kinds.ps mask-kinds.r mask-reads.Post (λ κs a r 
     (call (mask (a .1 .1 .1 .1 .1 .0 .now)) r (e .0 .now) (e .1 .0 .now) (e .1 .1 .0 .now)))
 mask-cited κs a r e p = p
 
--- a drop is lent SEQ to read, so that it is as it was
+-- a drop only reads SEQ, so SEQ is unchanged
 pub drop-calls-cited : Gives 4 drop-kinds.ps drop-kinds.r drop-reads.Post (λ κs a r e.
     Meets (a .1 .1 .1 .0) (rows (a .0 .now) (a .1 .0 .now) (a .1 .1 .0 .now) (a .1 .1 .1 .1 .0))
     (call (dropCalls (a .1 .1 .1 .1 .1 .0 .now)) r (a .0 .now) (e .1 .0 .now) (e .1 .1 .0 .now)))

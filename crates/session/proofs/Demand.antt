@@ -1,5 +1,5 @@
--- Demand 3 about this code, from the contracts of `open`, `mask`, `drop_calls` and `cut` alone: for any list of calls, each of which finds the rows and
--- the lengths as the one before left them, the rows at the end and all the answers are what a session means. With and without ML.
+-- Demand 3 about this code, from the contracts of `open`, `mask`, `drop_calls` and `cut` alone. It holds for any list of calls in which each call finds
+-- the rows and the lengths as the previous call left them: the rows at the end and all the answers are what the session means. With and without ML.
 -- Assumes nothing.
 use mathlib.Core.Path.{_≡_, refl, sym, ap, _∙_}
 use Prim.Native.Nat.{ℕ, _<_}
@@ -63,7 +63,7 @@ pub record As-meant (ml? : Bool) (w : Rows) (ls : List Listing) (cs : List Call)
   -- opened again, it has as many groups and calls as are left
   pub opens-then : onDone countsOf (openSession ml? (inMemory (atEnd w cs)))
       ≡ done (countsOf (map (leftOfListing (afterSteps ls (stepsOf cs) (opening (seqIn w)))) ls))
-  -- refused are exactly the drops of a listed call under a header that does not end in '?', and the cuts of more than SEQ holds
+  -- the refused steps are exactly the drops of a listed call under a header that does not end in '?', and the cuts of more than SEQ holds
   pub refused-exactly : map isRefusal (numbersOf cs) ≡ refusedSteps ls (stepsOf cs) (opening (seqIn w))
 
 module _ (ml? : Bool) (w : Rows) where
@@ -85,7 +85,7 @@ module _ (ml? : Bool) (w : Rows) where
         refused-exactly = ap (map isRefusal) (r .1) ∙ memory.refused-exactly ml? (inMemory w) ls e (stepsOf cs);
       }
 
-  -- Demand 3: where `open` answered Done, the tag lists as many groups and calls as it said; and whatever calls follow, the session comes to what it
+  -- Demand 3: if `open` answered Done, the tag lists as many groups and calls as it said. Whatever calls follow, the session results in what it
   -- means.
   pub session-as-meant : (groups calls : ℕ) → Opens ml? w (reading.Done groups calls) → (cs : List Call) → Chain ml? w cs
       → (ls : List Listing) × (lists ml? (seqIn w) (textIn w) (mlIn w) ≡ done ls)
@@ -94,13 +94,13 @@ module _ (ml? : Bool) (w : Rows) where
       let (ls, e, counted) = on-done-inv countsOf (openSession ml? (inMemory w)) (groups, calls) (sym opened) in
       (ls, opened-lists ls e, counted, as-meant ls e cs k)
 
--- A call that answers a number, a refusal's or 21, changes nothing: every row and every length is as it was.
+-- A call that answers a number other than 0, a refusal's or 21, changes nothing: every row and every length is unchanged.
 pub refused-changes-nothing : (ml? : Bool) (w : Rows) (c : Call) → Meets ml? w c → 0 < numberOf (stepSays (c .answered)) → leftBy w c ≡ w
 refused-changes-nothing ml? w c e l =
     let f = follows ml? w c e in
     same-rows (leftBy w c) w (f .0 ∙ memory.refused-changes-nothing ml? (c .asked) (inMemory w) (omega (arith, l, f .1)))
 
--- The whole session is settled: two lists of calls that ask for the same steps of the same rows leave the same rows and give the same numbers.
+-- The steps determine the session: two lists of calls that ask for the same steps on the same rows leave the same rows and give the same numbers.
 pub session-unique : (ml? : Bool) (w : Rows) (cs ds : List Call) → stepsOf cs ≡ stepsOf ds → Chain ml? w cs → Chain ml? w ds
     → (atEnd w cs ≡ atEnd w ds) × (numbersOf cs ≡ numbersOf ds)
 session-unique ml? w cs ds e k l =

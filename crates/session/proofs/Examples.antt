@@ -1,4 +1,4 @@
--- Steps on lent rows, by computation: the scope's session in rows that are longer than what it holds, and the edges of a call.
+-- Steps on lent rows, by computation: the scope's session in rows that are longer than what it holds, and the edge cases of a call.
 -- Assumes nothing.
 use mathlib.Core.Path.{_≡_, refl}
 use Prim.Native.Nat.{ℕ}
@@ -15,7 +15,7 @@ rows seq text ml s t m = record { seq = seq; text = text; ml = ml; lengths = rec
 abbrev held : ℕ → ℕ → ℕ → Lengths
 held s t m = record { seq = s; text = t; ml = m }
 
--- what was there before the opening stands behind SEQ, text and ML
+-- the bytes behind SEQ, text and ML are those from before the opening
 abbrev opened : Memory
 opened = rows (ascii "ACCGTCCxx") (ascii "C+m?,0,1,0;yy") (200 ∷ 90 ∷ 30 ∷ 77 ∷ []) 7 11 3
 

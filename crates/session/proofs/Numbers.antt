@@ -1,5 +1,5 @@
--- Which numbers each public call can answer, 0 just where it is done. The number is the definition's, and samtags/proofs/Numbers has an input for each
--- of them (`open-session-each`, `mask-step-each`, `drop-step-each`, `cut-step-each`).
+-- The numbers that each public call can answer: no other number, and 0 exactly when the call is done. The numbers are those of the definition;
+-- samtags/proofs/Numbers has an input for each of them (`open-session-each`, `mask-step-each`, `drop-step-each`, `cut-step-each`).
 -- Assumes nothing.
 use mathlib.Core.Path.{_≡_, refl, ap}
 use Prim.Native.Nat.{ℕ}
@@ -36,7 +36,7 @@ unfolding leavesMemory
 answer-refuses ns m (refused r) h = h
 answer-refuses ns m (done n) h = refl
 
--- the set is that of the step that was asked for: of a mask, of a drop, of a cut
+-- the set depends on the step that was asked for: a mask, a drop or a cut
 pub step-numbers : (ml? : Bool) (w : Rows) (c : Call) → Meets ml? w c → Answers (stepNumbers (c .asked)) (stepSays (c .answered))
 step-numbers ml? w c e =
     let m = inMemory w in

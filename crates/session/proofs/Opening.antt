@@ -1,4 +1,4 @@
--- Opening a session: where the lengths are in order it is the reader's answer on the front of each row.
+-- Opening a session: if the lengths are in order, the answer is the reader's on the front of each row.
 -- Assumes nothing.
 use mathlib.Core.Path.{_≡_, refl, sym, ap, _∙_}
 use Prim.Native.Nat.{ℕ, _≤_}

@@ -1,4 +1,4 @@
--- Each public call's contract settles its outcome: two outcomes that meet it, the answer and every row, are equal.
+-- Each public call's contract determines its outcome, the answer and every lent row: two outcomes that meet the contract are equal.
 -- Assumes nothing.
 use mathlib.Core.Path.{_≡_, ap, sym, _∙_}
 use Prim.Native.Nat.{ℕ}
@@ -28,7 +28,7 @@ module _ (ml? : Bool) (w : Rows) where
   pub open-unique : (r s : Reading) → Opens ml? w r → Opens ml? w s → r ≡ s
   open-unique r s p q = reading-says-inj r s (settled (readingSays r) (readingSays s) p q)
 
-  -- of `mask`, `drop_calls` and `cut` alike
+  -- for `mask`, `drop_calls` and `cut` alike
   pub step-unique : (c d : Call) → c .asked ≡ d .asked → Meets ml? w c → Meets ml? w d → c ≡ d
   step-unique c d a p q =
       let same : came (stepSays (c .answered)) (c .seq) (c .mm) (c .ml) ≡ came (stepSays (d .answered)) (d .seq) (d .mm) (d .ml) =

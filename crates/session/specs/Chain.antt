@@ -1,5 +1,5 @@
--- A session as a program runs it: `open`, and then calls of `mask`, `drop_calls` and `cut`, each of which finds the rows and the lengths as the one before
--- left them. Every call is taken by its contract alone.
+-- A session as a program runs it: `open`, and then calls of `mask`, `drop_calls` and `cut`, each on the rows and the lengths that the last call left.
+-- Only the contract of each call is used.
 -- Assumes nothing.
 use Prim.Native.Nat.{ℕ}
 use mathlib.Core.Bool.{Bool}
@@ -10,7 +10,7 @@ use Rattle.samtags.specs.Session.{Step}
 use Rattle.session.specs.Contracts.{Call, Meets, Rows}
 use Rattle.stepping.specs.Steps.{lengthsAfter, stepSays}
 
--- what the session holds of each row
+-- the part of each row that the session holds
 abbrev pub seqIn : Rows → List ℕ
 seqIn w = take (w .lengths .seq) (w .seq)
 
@@ -20,7 +20,7 @@ textIn w = take (w .lengths .mm) (w .mm)
 abbrev pub mlIn : Rows → List ℕ
 mlIn w = take (w .lengths .ml) (w .ml)
 
--- what the next call finds
+-- the rows and the lengths that the next call finds
 abbrev pub leftBy : Rows → Call → Rows
 leftBy w c = record { seq = c .seq; mm = c .mm; ml = c .ml; lengths = lengthsAfter (c .answered) (w .lengths) }
 
@@ -29,7 +29,7 @@ abbrev pub Chain : Bool → Rows → List Call → Type 0
 Chain ml? w [] = Unit {0}
 Chain ml? w (c ∷ cs) = Meets ml? w c × Chain ml? (leftBy w c) cs
 
--- the rows after the last of them
+-- the rows after the last call
 abbrev pub atEnd : Rows → List Call → Rows
 atEnd w [] = w
 atEnd w (c ∷ cs) = atEnd (leftBy w c) cs

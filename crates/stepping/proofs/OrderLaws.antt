@@ -1,4 +1,4 @@
--- Lengths in order: what the tests ask, and what a step comes to where they pass and where they fail.
+-- Lengths in order: what the tests check, and the result of a step when they pass and when they fail.
 -- Assumes nothing.
 use mathlib.Core.Path.{_≡_, refl, sym}
 use Prim.Native.Nat.{ℕ, _≤_}
@@ -14,7 +14,7 @@ use Rattle.lent.specs.declared.Refusal.{Refusal}
 use Rattle.samtags.specs.Session.{Memory, inOrder, lengthsInDomain, lengthsInBuffers}
 use Rattle.stepping.specs.Steps.{Ordered, lengthsInRows}
 
--- of an ML that there is not no value is taken
+-- without ML no value is taken
 pub values-leb : (ml? : Bool) (n k : ℕ) → cond ml? (leb n k) true ≡ leb (cond ml? n 0) k
 values-leb true n k = refl
 values-leb false n k = sym (le-leb 0 k (omega arith))
@@ -49,7 +49,7 @@ three a b ml? n k e =
     let third : leb (cond ml? n 0) k ≡ true = rw (values-leb ml? n k) at (and-true-r (a && b) (cond ml? (leb n k) true) e) in
     (and-true-l a b two, and-true-r a b two, leb-true (cond ml? n 0) k third)
 
--- what the tests of the lengths alone come to
+-- the result of the tests of the lengths alone
 abbrev pub tests : Bool → Memory → Outcome (Unit {0})
 tests ml? m =
     need (lengthsInDomain ml? (m .lengths)) 1

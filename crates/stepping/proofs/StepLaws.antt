@@ -1,4 +1,4 @@
--- From an edited tag at the front of its rows to what a step answers and leaves; and which edits the three steps are.
+-- From an edited tag at the front of its rows to the answer of a step and the rows after it; and the edit that each of the three steps makes.
 -- Assumes nothing.
 use mathlib.Core.Path.{_≡_, refl, sym, ap, _∙_}
 use Prim.Native.Nat.{ℕ, _+_, _-_, _≤_, _<_}

@@ -1,4 +1,4 @@
--- A step of a session on its lent rows: what it answers and how it leaves them.
+-- A step of a session on its lent rows: its answer, and the rows after it.
 -- Assumes nothing.
 use Prim.Native.Nat.{ℕ, _≤_}
 use mathlib.Core.Bool.{Bool, cond, true, _&&_}
@@ -20,12 +20,12 @@ use Rattle.stepping.specs.declared.order.Order.the-variants as order
 abbrev pub lengthsOf : Declared → Lengths
 lengthsOf n = record { seq = n .seq; text = n .mm; ml = n .ml }
 
--- each case of `Stepped` with the scope's number and values: 0 and the lengths, or the refusal or 21
+-- `Stepped` as an outcome: done with the lengths, or the refusal or 21
 abbrev pub stepSays : Stepped → Outcome Lengths
 stepSays (stepped.Done n) = done (lengthsOf n)
 stepSays (stepped.Refused r) = refused r
 
--- the lengths that the next step is given: the new ones, or after a refusal the old ones
+-- the lengths for the next step: the new ones, or the old ones after a refusal
 abbrev pub lengthsAfter : Stepped → Declared → Declared
 lengthsAfter (stepped.Done n) old = n
 lengthsAfter (stepped.Refused r) old = old
@@ -36,7 +36,7 @@ lengthsAfter (stepped.Refused r) old = old
 abbrev pub memory : List ℕ → List ℕ → List ℕ → Declared → Memory
 memory seq mm ml n = record { seq = seq; text = mm; ml = ml; lengths = lengthsOf n }
 
--- what a step answers, and the three rows as it leaves them
+-- the answer of a step, and the three rows after it
 pub record Came : Type 0 where
   pub answer : Outcome Lengths
   pub seq : List ℕ
@@ -46,18 +46,18 @@ pub record Came : Type 0 where
 abbrev pub came : Outcome Lengths → List ℕ → List ℕ → List ℕ → Came
 came answer seq text ml = record { answer = answer; seq = seq; text = text; ml = ml }
 
--- a step on m that comes to o: the new lengths and the rows as they then are; a refusal, or 21, leaves every row as it was
+-- a step on m with the outcome o: the new lengths and the new rows; a refusal, or 21, leaves every row unchanged
 unfoldable pub leavesMemory : Memory → Outcome Memory → Came
 leavesMemory m (refused r) = came (refused r) (m .seq) (m .text) (m .ml)
 leavesMemory m (done n) = came (done (n .lengths)) (n .seq) (n .text) (n .ml)
 
--- SEQ becomes `after`, and the tag what the edit makes of it
+-- SEQ becomes `after`, and the tag becomes the edited tag
 abbrev pub storedWith : Bool → Memory → List ℕ → Outcome Tag → Outcome Memory
 storedWith ml? m after o = andThen (heldWith ml? (heldIn m) after o) (λ s. done (stored ml? m s))
 
--- ---- the order of the lengths: contracts of support functions, which no one needs to believe
+-- ---- the order of the lengths: contracts of support functions; no promise rests on them
 
--- the lengths n are no longer than the rows' s, t and v
+-- the lengths n are not longer than the rows' lengths s, t and v
 abbrev pub lengthsInRows : Bool → ℕ → ℕ → ℕ → Lengths → Bool
 lengthsInRows ml? s t v n = leb (n .seq) s && leb (n .text) t && cond ml? (leb (n .ml) v) true
 
@@ -69,7 +69,7 @@ abbrev pub orderRefusal : Order → Refusal
 orderRefusal order.Kept = refusal 0
 orderRefusal (order.Refused r) = r
 
--- the lengths are within the domain and within the rows; an ML that there is not is not looked at
+-- the lengths are within the domain and within the rows; without ML the ML length is ignored
 abbrev pub Ordered : Bool → Memory → Type 0
 Ordered ml? m =
     (m .lengths .seq ≤ 16000) × (m .lengths .text ≤ 65536) × (cond ml? (m .lengths .ml) 0 ≤ 65536)

@@ -1,8 +1,7 @@
-// What the three steps of an edit session share, on its own lent rows: how much of each row it holds, what a step answers, and the tag edited where it
-// stands. The steps are `masking`, `dropping` and `cutting`. A support crate: a function here may ask something of its caller (`requires`); the public
-// calls stand above, in `session`.
+// What the three steps of an edit session share: how much of each lent row the session holds, the answer of a step, and the tag edited in place. The
+// steps are `masking`, `dropping` and `cutting`. A support crate: its functions may have a `requires`; the public calls are in `session`.
 //
-// order: whether a session's lengths are in order. tags: the tag at the front of its rows, edited.
+// order: whether a session's lengths are in order. tags: edits the tag at the front of its rows.
 pub mod order;
 pub mod tags;
 
@@ -10,20 +9,20 @@ ghost use mathlib.Core.Path.{_≡_};
 ghost use mathlib.Core.Bool.{cond};
 use lent::Refusal;
 
-// How much of each lent row a session holds. It goes into a step by value, and comes back.
+// How much of each lent row a session holds. A step takes the lengths by value and answers the new ones.
 pub struct Lengths {
     pub seq: usize,
     pub mm: usize,
     pub ml: usize,
 }
 
-// What a step answers: the session's new lengths, or why nothing was changed. 21, a cut of nothing, comes as such a number too.
+// The answer of a step: the session's new lengths, or why nothing was changed. 21, a cut of nothing, is represented in the same way.
 pub enum Stepped {
     Done(Lengths),
     Refused(Refusal),
 }
 
-// The lengths after a step, where `kept` values of ML are left. A session without an ML keeps the length it was given.
+// The lengths after a step; `kept` values of ML are left. Without ML the ML length stays as given.
 pub fn lengths_now(seq: usize, mm: usize, kept: usize, has_ml: bool, before: Lengths) -> Lengths
     ensures { λ r. ⌜ (r .seq ≡ seq) × (r .mm ≡ mm) × (r .ml ≡ cond «has_ml» kept (before .ml)) ⌝ }
 {

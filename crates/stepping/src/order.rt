@@ -1,4 +1,4 @@
-// Whether a session's lengths are in order: 1 where one is out of the domain, 2 where one is over its row. Longer rows are fine.
+// Whether a session's lengths are in order: 1 if one is outside the domain, 2 if one is longer than its row. Longer rows are fine.
 ghost use mathlib.Core.Path.{_≡_};
 ghost use Rattle.lent.specs.Outcome.{need, done};
 ghost use Rattle.samtags.specs.Session.{lengthsInDomain};
@@ -13,7 +13,7 @@ pub enum Order {
 }
 
 impl Order {
-    // The refusal, passed on whole.
+    // The refusal, unchanged. `Kept` gives the number 0.
     pub fn refusal(self) -> Refusal
         ensures { λ r. ⌜ r ≡ orderRefusal self ⌝ }
     {
@@ -24,7 +24,7 @@ impl Order {
     }
 }
 
-// The rows have room for `seq`, `mm` and `ml` bytes. Without an ML its length is not looked at.
+// Checks the lengths against rows of `seq`, `mm` and `ml` bytes. Without ML the ML length is ignored.
 pub fn lengths_in_order(seq: usize, mm: usize, ml: usize, has_ml: bool, lengths: Lengths) -> Order
     ensures { λ r. ⌜ orderSays r
         ≡ need (lengthsInDomain «has_ml» (lengthsOf lengths)) 1 (need (lengthsInRows «has_ml» seq mm ml (lengthsOf lengths)) 2 (done tt)) ⌝ }

@@ -1,4 +1,4 @@
-// The tag at the front of its rows, edited where it stands.
+// Edits the tag at the front of its rows, in place.
 ghost use mathlib.Core.Path.{_≡_};
 ghost use mathlib.Core.Bool.{cond};
 ghost use Prim.Native.Nat.{_≤_};
@@ -9,8 +9,8 @@ ghost use Rattle.editing.specs.Rewrote.{rewrote, leavesTag};
 ghost use Rattle.changing.specs.Windows.{windowEdit};
 use lent::Tagged;
 
-// The text is the first `text` bytes of its row and the ML the first `values` of its own; the bytes past them stay as they are. The reader's numbers
-// and 10; with any refusal the rows stay as they were.
+// The text is the first `text` bytes of its row, and the ML the first `values` of its row; the bytes after them are unchanged. Answers the reader's
+// numbers and 10; with any refusal the rows are unchanged.
 pub fn edit_front(
     seq: &[u8],
     after: &[u8],

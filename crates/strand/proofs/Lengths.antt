@@ -1,4 +1,4 @@
--- How long SEQ and the columns are where the checks let them pass.
+-- The lengths of SEQ and the columns when they pass the checks.
 -- Assumes nothing.
 use mathlib.Core.Path.{_≡_}
 use Prim.Native.Nat.{_≤_, ℕ}

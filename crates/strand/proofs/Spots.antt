@@ -1,4 +1,4 @@
--- A strand's spots as the walk comes to them, place by place; and what its group and its tag are in terms of them.
+-- A strand's spots in the order of the walk, place by place; and the strand's group and tag in terms of its spots.
 -- Assumes nothing.
 use mathlib.Core.Path.{_∙_, _≡_, ap, sym}
 use Prim.Native.Nat.{_+_, _<_, _≤_, ℕ}

@@ -1,8 +1,7 @@
-// A strand's group from SEQ and evidence: its value at a place, its entries from the left, its text and its ML. A support crate: a function here may
-// ask something of its caller (`requires`); the public calls stand in `building` and `duplex`.
+// A strand's group from SEQ and evidence: its value at a place, its entries from the left, its text and its ML. A support crate: its functions may
+// have a `requires`; the public calls are in `building` and `duplex`.
 //
-// Rows are written as far as they reach, so that the same walk over empty rows measures, and over the caller's own, once the tag is known to
-// fit, writes.
+// Rows are written as far as they reach. So the same walk measures over empty rows, and writes into the caller's rows once the tag is known to fit.
 ghost use mathlib.Core.Path.{_≡_};
 ghost use mathlib.Core.List.{[], _∷_};
 ghost use Prim.Native.Nat.{_+_, _*_, _≤_, _<_};
@@ -17,16 +16,16 @@ ghost use Rattle.strand.specs.Walk.{calledSays, spotsFrom, spotsAt};
 use pattern::ConversionPattern;
 use pattern::MethylationMode;
 
-// Bases of SEQ, and entries of a column.
+// The most bases of SEQ, and the most entries of a column.
 const POSITIONS: usize = 16000;
 
-// The ML value of the call at a place, where there is one.
+// The ML value of the call at a place, if there is one.
 pub enum Called {
     Value(u8),
     Nothing,
 }
 
-// Where a writer stands: the bases of the group's letter since the last call, and the byte of the text and the value of ML that come next.
+// The state of a writer: the number of bases of the group's letter since the last call, the next byte of the text, the next value of ML.
 pub struct Pen {
     pub skip: usize,
     pub text: usize,
@@ -39,7 +38,7 @@ pub struct Sizes {
     pub values: usize,
 }
 
-// SEQ and the columns are as long as the domain allows.
+// Whether the lengths of SEQ and of the columns are within the domain.
 pub fn in_domain(seq: &[u8], informative: &[u8], unconverted: &[u32], converted: &[u32]) -> bool
     ensures { λ r. ⌜ r ≡ evidenceInDomain (columns (now (informative .entry)) (now (unconverted .entry)) (now (converted .entry))) (now (seq .entry)) ⌝ }
 {
@@ -55,7 +54,7 @@ pub fn in_domain(seq: &[u8], informative: &[u8], unconverted: &[u32], converted:
     converted.len() <= POSITIONS
 }
 
-// SEQ and the columns are of one length.
+// Whether SEQ and the columns are of one length.
 pub fn agree(seq: &[u8], informative: &[u8], unconverted: &[u32], converted: &[u32]) -> bool
     ensures { λ r. ⌜ r ≡ evidenceAgrees (columns (now (informative .entry)) (now (unconverted .entry)) (now (converted .entry))) (now (seq .entry)) ⌝ }
 {
@@ -68,7 +67,7 @@ pub fn agree(seq: &[u8], informative: &[u8], unconverted: &[u32], converted: &[u
     converted.len() == seq.len()
 }
 
-// The reads that speak for methylation.
+// How many reads are evidence for methylation.
 fn numerator(mode: MethylationMode, unconverted: u32, converted: u32) -> u32
     ensures { λ r. ⌜ r ≡ numerator mode unconverted converted ⌝ }
 {
@@ -79,7 +78,7 @@ fn numerator(mode: MethylationMode, unconverted: u32, converted: u32) -> u32
     }
 }
 
-// A probability as ML holds it, in 64 bits: 256 times a count passes what a u32 holds, and so does the sum of two.
+// A probability as ML holds it. It is computed in 64 bits: 256 times a count can exceed a u32, and so can the sum of two counts.
 fn ml_value(speaking: u32, total: u64) -> u8
     requires { ⌜ 0 < total ⌝ }
     ensures { λ r. ⌜ r ≡ mlValue speaking total ⌝ }
@@ -91,7 +90,7 @@ fn ml_value(speaking: u32, total: u64) -> u8
     scaled as u8
 }
 
-// The value of a call, where the place is informative and a read was counted there.
+// The value of a call, if the place is informative and a read was counted there.
 fn call_of(mode: MethylationMode, informative: u8, unconverted: u32, converted: u32) -> Called
     ensures { λ r. ⌜ calledSays r ≡ called mode informative unconverted converted ⌝ }
 {
@@ -125,7 +124,7 @@ fn put_entry(pen: Pen, value: u8, text: &mut [u8], ml: &mut [u8]) -> Pen
     }
 }
 
-// Passes a place: nothing where its base is not the group's, one base more to skip where it has no call, else its entry.
+// Passes a place: does nothing if its base is not the group's, adds one to the skip if it has no call, else writes its entry.
 fn pass_place(
     seq: &[u8],
     informative: &[u8],
@@ -167,7 +166,7 @@ fn pass_place(
     put_entry(pen, value, text, ml)
 }
 
-// Writes the entries of a strand's group, place by place, from a byte of the text on.
+// Writes the entries of a strand's group, place by place, from byte `at` of the text on.
 fn put_entries(
     seq: &[u8],
     informative: &[u8],
@@ -260,7 +259,7 @@ pub fn put_group(
     }
 }
 
-// How long the strand's own tag is: nothing where there is no call or no chemistry.
+// The lengths of the strand's own tag; both are 0 if there is no call or no chemistry.
 pub fn measure(
     seq: &[u8],
     informative: &[u8],
@@ -296,7 +295,7 @@ pub fn measure(
     sizes
 }
 
-// Writes the strand's own tag, which has so many calls, to the front of two rows, as far as they reach.
+// Writes the strand's own tag, which has `calls` calls, to the front of two rows, as far as they reach.
 pub fn put_tag(
     seq: &[u8],
     informative: &[u8],

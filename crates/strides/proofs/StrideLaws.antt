@@ -1,4 +1,4 @@
--- Counts over blocks: one byte more, a block behind a block, and how many bases of a block a window still holds.
+-- Counts over blocks: one more byte, one block behind another, and how many bases of a block a window still holds.
 -- Assumes nothing.
 use mathlib.Core.Path.{_≡_, _∙_, ap, refl, sym}
 use Prim.Native.Nat.{ℕ, suc, zero, _+_, _-_, _≤_, _<_}
@@ -207,7 +207,7 @@ both-self : (b : ℕ) (xs : List ℕ) → holdBoth b xs xs ≡ length (filter (h
 both-self b [] = refl
 both-self b (x ∷ xs) = by-test (holds b x) (λ e. rw (e, both-self b xs) (omega arith)) (λ e. rw (e, both-self b xs) (omega arith))
 
--- what stands after is SEQ itself, which holds every base of a block
+-- if `after` is SEQ itself, it holds every base of a block
 pub all-held : (w : Window) (after : List ℕ) (b : ℕ) (seq : List ℕ) (at : ℕ) → Told w after seq → w .same ≡ true → at + 32 ≤ length seq
     → heldBetween (w .lo) after b seq at (at + 32) ≡ length (filter (holds b) (take 32 (drop at seq)))
 all-held w after b seq at told s u =

@@ -1,6 +1,5 @@
-// Whole blocks of SEQ passed at a time. A group's entry says how many bases of a letter to pass; a block that holds no more of them than are left is passed
-// by its counts alone, which takes the processor about one step for each base. A support crate: a function here may ask something of its caller
-// (`requires`).
+// Passes whole blocks of SEQ at a time. A group's entry says how many bases of a letter to pass. A block with no more of them than are left to pass
+// is passed by its counts alone, which takes the processor about one step for each base. A support crate: its functions may have a `requires`.
 ghost use mathlib.Core.Path.{_≡_};
 ghost use Prim.Native.Nat.{_+_, _-_, _≤_};
 ghost use mathlib.Core.Bool.{false, true};
@@ -9,20 +8,20 @@ ghost use Rattle.lent.specs.Lists.{filter};
 ghost use Rattle.samtags.specs.Spots.{holds, tracked};
 ghost use Rattle.strides.specs.Counts.{Told, Undivided, between, heldBetween, holdBoth};
 
-// Which place of SEQ what stands after the edit begins at, and whether it is SEQ itself, so that no passed base need be asked whether it is held.
+// The offset of the edited SEQ in the old one, and whether the edited SEQ is SEQ itself. If it is, no passed base is checked for being held.
 pub struct Window {
     pub lo: usize,
     pub same: bool,
 }
 
-// A byte of SEQ counts for the base: every byte where the base is 'N', else the base itself.
+// Whether a byte of SEQ counts for the base: every byte if the base is 'N', else only the base itself.
 pub fn counts(base: u8, b: u8) -> bool
     ensures { λ r. ⌜ r ≡ holds base b ⌝ }
 {
     base == b'N' || b == base
 }
 
-// How many bytes of a block from a place on are the base. The count is kept in a byte, of which sixteen are added in one step.
+// How many bytes of a block from a place on are the base. The count is kept in a byte, so that sixteen counts are added in one step.
 fn count_block(seq: &[u8], from: usize, size: usize, base: u8) -> usize
     requires { ⌜ (from + size ≤ length (now seq)) × (size ≤ 128) × (base ≡ 78 → ⊥) ⌝ }
     ensures { λ r. ⌜ r ≡ length (filter (holds base) (take size (drop from (now (seq .entry))))) ⌝ }
@@ -37,7 +36,7 @@ fn count_block(seq: &[u8], from: usize, size: usize, base: u8) -> usize
     n as usize
 }
 
-// How many of 32 places hold the base in SEQ and in what stands after it.
+// How many of 32 places hold the base both in SEQ and in the edited SEQ.
 fn both_in_block(seq: &[u8], from: usize, after: &[u8], there: usize, base: u8) -> usize
     requires { ⌜ (from + 32 ≤ length (now seq)) × (there + 32 ≤ length (now after)) × (base ≡ 78 → ⊥) ⌝ }
     ensures { λ r. ⌜ r ≡ holdBoth base (take 32 (drop from (now (seq .entry)))) (take 32 (drop there (now (after .entry)))) ⌝ }
@@ -53,7 +52,7 @@ fn both_in_block(seq: &[u8], from: usize, after: &[u8], there: usize, base: u8) 
     n as usize
 }
 
-// The window's start or its end lies inside the block at a place: such a block is passed base by base. SEQ itself divides none.
+// Whether the window's start or its end is inside the block at a place. A divided block is passed base by base. SEQ itself divides no block.
 fn is_split(place: usize, window: Window, bases: usize) -> bool
     requires { ⌜ place + 32 ≤ 16000 ⌝ }
     ensures { λ r. ⌜ (r ≡ false → Undivided window bases place) ⌝ }
@@ -71,7 +70,7 @@ fn is_split(place: usize, window: Window, bases: usize) -> bool
     bases - there < 32
 }
 
-// How many of the group's n bases of a block are still held: none outside the window, and all of them in SEQ itself.
+// How many of the group's n bases of a block are still held: none outside the window, and all if the window is SEQ itself.
 fn held_in_block(
     seq: &[u8],
     after: &[u8],
@@ -97,14 +96,14 @@ fn held_in_block(
     both_in_block(seq, place, after, there, base)
 }
 
-// How far a walk came: the place it stands at, how many of the bases to pass it has passed, and how many of those are still held.
+// How far a walk came: its place, how many of the bases to pass it has passed, and how many of those are still held.
 pub struct Stride {
     pub place: usize,
     pub passed: usize,
     pub held: usize,
 }
 
-// From a place on, passes blocks while each holds no more of the group's bases than are left to pass; the last few are sooner passed one by one.
+// From a place on, passes blocks while each holds no more of the group's bases than are left to pass. The last few are passed faster one by one.
 pub fn pass_blocks(
     seq: &[u8],
     after: &[u8],
@@ -149,7 +148,7 @@ pub fn pass_blocks(
     }
 }
 
-// There are more than a few bases to pass, and a whole block ahead.
+// Whether there are more than a few bases to pass, and a whole block ahead.
 fn is_far(skip: usize, bases: usize) -> bool
     ensures { λ r. ⌜ (r ≡ true → 32 ≤ bases) ⌝ }
 {

@@ -1,12 +1,12 @@
-// `tagedit`: edits the base-modification tag of one read. It reads lines that give SEQ, MM, perhaps ML, and then the steps, and prints an answer for the
-// opening and for each step, and what is left. What it prints is `transcript`'s; here is only the reading and the printing.
+// `tagedit` edits the base-modification tag of one read. It reads lines that give SEQ, MM, optionally ML, and then the steps. It prints an answer for
+// the opening and for each step, and then what is left. The output is made by `transcript`; this file only reads and prints.
 ghost use mathlib.Core.Path.{_≡_};
 ghost use Prim.Native.Nat.{_≤_};
 ghost use lib.ListN.{length};
 use libc::STDIN_FILENO;
 use libc::STDOUT_FILENO;
 
-// One byte more than an input may have, so that a longer one is seen.
+// One byte more than an input may have, so that a longer input is noticed.
 fn input_row() -> [u8; 65537]
     ensures { λ r. ⌜ 65537 ≡ length r ⌝ }
 {

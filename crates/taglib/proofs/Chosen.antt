@@ -1,4 +1,4 @@
--- A call that is made with the chemistry and the patterns that C's numbers name, for a call with many rows: what it comes to is what the export comes to.
+-- A call with many rows, made with the chemistry and the patterns that C's numbers name: its outcome is the outcome of the export.
 -- Assumes nothing.
 use Prim.Native.Nat.{ℕ}
 use mathlib.Core.List.{List}

@@ -1,6 +1,6 @@
--- Which numbers each export can return to a C program, with 0 just where its call is done: from the export's proposition. What is returned is the number
--- that the definition of the call gives, and for each of these numbers the definition's own crate has an input. Where a C program names a chemistry by its
--- number, 13 is one more, and the inputs stand here.
+-- The numbers that each export can return to a C program, and 0 exactly when its call is done: from the export's proposition. The returned number is the
+-- one that the definition of the call gives, and the definition's own crate has an input for each of these numbers. For `aql_mode_is_enabled` and the
+-- build exports, 13 (the number names no chemistry) is one more number, and the inputs are in this file.
 -- Assumes nothing.
 use mathlib.Core.Path.{_≡_, refl}
 use Prim.Native.Nat.{ℕ}

@@ -1,4 +1,4 @@
--- An export that returns a number other than 0 has written nothing: every row, number and array that was lent to it is as it was.
+-- An export that returns a number other than 0 has written nothing: every row, number and array that was lent to it is unchanged.
 -- Assumes nothing.
 use mathlib.Core.Path.{_≡_}
 use Prim.Native.Nat.{ℕ}

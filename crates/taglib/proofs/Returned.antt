@@ -1,5 +1,5 @@
--- What an export returns is the number of what its call comes to: so the numbers of the call are those of the export, and with a number other than 0
--- what was lent is as it was.
+-- An export returns the number of its call's outcome. So the numbers of the call are those of the export, and with a number other than 0 everything that
+-- was lent is unchanged.
 -- Assumes nothing.
 use mathlib.Core.Path.{_≡_, _∙_, ap, refl, subst, sym}
 use Prim.Native.Nat.{ℕ}

@@ -1,4 +1,5 @@
--- Each export's proposition settles what it returns and every entry of what was lent to it: two outcomes that meet it are equal.
+-- Each export's proposition determines its return value and everything that was lent to it, but for the work rows of `aql_transcript`: two outcomes that
+-- meet the proposition are equal.
 -- Assumes nothing.
 use mathlib.Core.Path.{_≡_}
 use Prim.Native.Nat.{ℕ}

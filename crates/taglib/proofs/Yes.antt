@@ -1,4 +1,4 @@
--- A yes as a byte: what a program makes of a Bool is what the definitions write for it.
+-- A yes as a byte: the byte that a program makes of a Bool is the byte that the definitions write for it.
 -- Assumes nothing.
 use mathlib.Core.Bool.{Bool, true, false}
 use mathlib.Core.Path.{_≡_, _∙_, ap, refl}

@@ -1,5 +1,5 @@
--- What `aql_duplex_methylation_tags` promises to a C program: one proposition, over its arguments, the number it returns and what was lent as it leaves
--- it. The export's `ensures` cites it, and every theorem about the export takes it.
+-- What `aql_duplex_methylation_tags` promises to a C program: one proposition, about its arguments, the returned number, and the lent rows and
+-- numbers after the call. The export's `ensures` cites it, and every theorem about the export uses it.
 -- Assumes nothing.
 use mathlib.Core.Path.{_≡_}
 use Prim.Native.Nat.{ℕ}
@@ -15,16 +15,16 @@ use Rattle.telling.specs.Told.{told}
 use Rattle.modes.specs.Modes.{modeOf}
 use Rattle.telling_strands.specs.Strands.{partRow}
 
--- a strand whose pattern is that of a read's flags
+-- a strand with the pattern of a read's flags
 abbrev pub strandInC : ℕ → List ℕ → List ℕ → List ℕ → Strand
 strandInC flags inf unc con = strand (patternOf flags) inf unc con
 
--- the duplex call with the chemistry that C's number names, 13 first where it is unknown
+-- the duplex call with the chemistry that C's number names; 13 first if the chemistry is unknown
 abbrev pub duplexesAs : ℕ → ℕ → List ℕ → Strand → Strand → Lengths → Outcome Duplexed
 duplexesAs count mode bases a b lent = andThen (modeOf mode) (λ c. duplexTags count c bases a b lent)
 
--- The consensus, the number of strands, the chemistry's number and the two strands; the eleven rows and the array of lengths as lent; what is returned;
--- rows and array as left.
+-- The consensus, the number of strands, the chemistry's number and the two strands; the eleven lent rows and the lent array of lengths; the returned
+-- number; rows and array after the call.
 abbrev pub DuplexesInC : List ℕ → ℕ → ℕ → Strand → Strand → Rows → List ℕ → ℕ → Rows → List ℕ → Type 0
 DuplexesInC bases count mode a b lent lengths r left lengths′ =
     let o = duplexesAs count mode bases a b (lengthsLent lent) in

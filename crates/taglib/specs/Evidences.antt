@@ -1,4 +1,4 @@
--- The evidence of a position whose parts are given one by one.
+-- The evidence of a position, made from its parts.
 -- Assumes nothing.
 use Prim.Native.Nat.{ℕ}
 use mathlib.Core.Bool.{Bool}

@@ -1,5 +1,5 @@
--- What each export over bytes, patterns and the chemistry promises to a C program: one proposition for each, over its arguments, the number it returns
--- and the lent numbers as it leaves them. The export's `ensures` cites it, and every theorem about the export takes it.
+-- What each export over bytes, patterns and the chemistry promises to a C program: one proposition per export, about its arguments, the returned
+-- number, and the lent numbers after the call. The export's `ensures` cites it, and every theorem about the export uses it.
 -- Assumes nothing.
 use mathlib.Core.Path.{_≡_}
 use Prim.Native.Nat.{ℕ}
@@ -15,7 +15,7 @@ use Rattle.taglib.specs.Patterns.{patternNumber}
 abbrev pub UppercasesInC : ℕ → ℕ → Type 0
 UppercasesInC b r = r ≡ upper b
 
--- `aql_eq_ignore_ascii_case`: two bytes, and 1 where they are the same in any case, else 0
+-- `aql_eq_ignore_ascii_case`: two bytes, and 1 if they are the same apart from case, else 0
 abbrev pub ComparesInC : ℕ → ℕ → ℕ → Type 0
 ComparesInC a b r = r ≡ yesByte (sameInAnyCase a b)
 
@@ -37,7 +37,7 @@ NamesLetterInC flags r = r ≡ letterOf (patternOf flags)
 abbrev pub NamesSignInC : ℕ → ℕ → Type 0
 NamesSignInC flags r = r ≡ signOf (patternOf flags)
 
--- `aql_mode_is_enabled`: the number of a chemistry and the lent number; 0 and in it 1 or 0, or 13 and it is as it was
+-- `aql_mode_is_enabled`: the number of a chemistry and the lent number; returns 0, with 1 or 0 in the lent number, or 13, with the lent number unchanged
 abbrev pub TellsEnabledInC : ℕ → ℕ → ℕ → ℕ → Type 0
 TellsEnabledInC mode enabled r enabled′ =
     let o = onDone isEnabled (modeOf mode) in

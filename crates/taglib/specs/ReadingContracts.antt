@@ -1,5 +1,5 @@
--- What each export that reads a tag promises to a C program: one proposition for each, over its arguments, the number it returns and what was lent as it
--- leaves it. The export's `ensures` cites it, and every theorem about the export takes it.
+-- What each export that reads a tag promises to a C program: one proposition per export, about its arguments, the returned number, and the lent rows
+-- and numbers after the call. The export's `ensures` cites it, and every theorem about the export uses it.
 -- Assumes nothing.
 use mathlib.Core.Path.{_≡_}
 use Prim.Native.Nat.{ℕ}
@@ -12,18 +12,18 @@ use Rattle.samtags.specs.Reading.{callList, readTag, Tally, tallyTag}
 use Rattle.reading.specs.Calls.{groupColumn, listedCalls, placeColumn, startColumn}
 use Rattle.telling.specs.Told.{told, yes}
 
--- A call that comes to o tells how many groups and calls a tag lists: 0 and the two numbers, or o's number, and both are as they were.
+-- A call with the outcome o passes on how many groups and calls a tag lists: 0 and the two numbers, or o's number with both unchanged.
 abbrev pub TellsCallsInC : Outcome (List Listing) → ℕ → ℕ → ℕ → ℕ → ℕ → Type 0
 TellsCallsInC o groups calls r groups′ calls′ =
     (r ≡ numberOf o)
     × (groups′ ≡ told (λ (ls : List Listing). length ls) o groups)
     × (calls′ ≡ told (λ (ls : List Listing). length (callList ls)) o calls)
 
--- `aql_check_tag`: SEQ, MM, ML and whether there is an ML; the two numbers as lent; what is returned; the two numbers as left
+-- `aql_check_tag`: SEQ, MM, ML and whether there is an ML; the two lent numbers; the returned number; the two numbers after the call
 abbrev pub ChecksTagInC : List ℕ → List ℕ → List ℕ → ℕ → ℕ → ℕ → ℕ → ℕ → ℕ → Type 0
 ChecksTagInC seq mm ml hasMl groups calls r groups′ calls′ = TellsCallsInC (readTag (yes hasMl) seq mm ml) groups calls r groups′ calls′
 
--- `aql_read_calls`: SEQ, MM, ML and whether there is an ML; the three columns and the two numbers as lent; what is returned; columns and numbers as left
+-- `aql_read_calls`: SEQ, MM, ML and whether there is an ML; the three lent columns and two lent numbers; the returned number; columns and numbers after the call
 abbrev pub ReadsCallsInC : List ℕ → List ℕ → List ℕ → ℕ → List ℕ → List ℕ → List ℕ → ℕ → ℕ → ℕ → List ℕ → List ℕ → List ℕ → ℕ → ℕ
     → Type 0
 ReadsCallsInC seq mm ml hasMl gs ps ss groups calls r gs′ ps′ ss′ groups′ calls′ =
@@ -35,7 +35,7 @@ ReadsCallsInC seq mm ml hasMl gs ps ss groups calls r gs′ ps′ ss′ groups�
     × (ps′ ≡ leaves placeColumn o ps)
     × (ss′ ≡ leaves startColumn o ss)
 
--- `aql_tally`: SEQ, MM and ML; the two numbers as lent; what is returned; how many values of the ML are above and below
+-- `aql_tally`: SEQ, MM and ML; the two lent numbers; the returned number; how many values of the ML are above and below
 abbrev pub TalliesInC : List ℕ → List ℕ → List ℕ → ℕ → ℕ → ℕ → ℕ → ℕ → Type 0
 TalliesInC seq mm ml above below r above′ below′ =
     let o = tallyTag seq mm ml in

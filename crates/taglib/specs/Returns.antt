@@ -1,4 +1,4 @@
--- Which numbers an export can return to a C program.
+-- The numbers that an export can return to a C program.
 -- Assumes nothing.
 use mathlib.Core.Path.{_≡_}
 use Prim.Native.Nat.{ℕ}
@@ -8,7 +8,7 @@ use Rattle.lent.specs.Answers.{isDone}
 use Rattle.lent.specs.Lists.{among}
 use Rattle.lent.specs.Outcome.{Outcome}
 
--- An export whose call comes to o returns r: 0 or one of these numbers, and 0 just where the call is done.
+-- An export whose call has the outcome o returns r: 0 or a number in the list, and 0 exactly when the call is done.
 pub record Returns {A : Type 0} (ns : List ℕ) (o : Outcome A) (r : ℕ) : Type 0 where
   pub number-among : among (0 ∷ ns) r ≡ true
   pub done-is-zero : isDone o ≡ true → r ≡ 0

@@ -1,5 +1,5 @@
--- What each export that rewrites a tag into other rows promises to a C program: one proposition for each, over its arguments, the number it returns and
--- what was lent as it leaves it. The export's `ensures` cites it, and every theorem about the export takes it.
+-- What each export that rewrites a tag into other rows promises to a C program: one proposition per export, about its arguments, the returned
+-- number, and the lent rows and numbers after the call. The export's `ensures` cites it, and every theorem about the export uses it.
 -- Assumes nothing.
 use mathlib.Core.Path.{_≡_}
 use Prim.Native.Nat.{ℕ}
@@ -14,8 +14,9 @@ use Rattle.editing.specs.Rewrote.{valuesWith}
 use Rattle.telling.specs.Told.{told, yes}
 use Rattle.telling.specs.Starts.{givenStart}
 
--- A call that comes to o writes a tag, its text into mm and its values into ml, and tells how long both are: 0, the two at the front of their rows and
--- their lengths in t and v; or o's number, and rows and lengths are as they were. Without an ML its row stays as it was, and v is 0.
+-- A call with the outcome o writes a tag, its text into mm and its values into ml, and passes on both lengths. It returns 0, with the two at the
+-- front of their rows and their lengths in t and v; or o's number, with rows and lengths unchanged. Without ML the ML row is unchanged, and a done
+-- call writes 0 to v.
 abbrev pub WritesTagInC : Bool → Outcome Tag → List ℕ → List ℕ → ℕ → ℕ → ℕ → List ℕ → List ℕ → ℕ → ℕ → Type 0
 WritesTagInC ml? o mm ml t v r mm′ ml′ t′ v′ =
     (r ≡ numberOf o)
@@ -24,8 +25,8 @@ WritesTagInC ml? o mm ml t v r mm′ ml′ t′ v′ =
     × (mm′ ≡ leaves (λ (u : Tag). u .text) o mm)
     × (ml′ ≡ leaves (valuesWith ml?) o ml)
 
--- `aql_drop_masked_modifications`: SEQ before and after, MM, ML and whether there is an ML; rows and lengths as lent; what is returned; rows and lengths
--- as left
+-- `aql_drop_masked_modifications`: SEQ before and after, MM, ML and whether there is an ML; the lent rows and lengths; the returned number; rows and
+-- lengths after the call
 abbrev pub MasksTagInC : List ℕ → List ℕ → List ℕ → List ℕ → ℕ → List ℕ → List ℕ → ℕ → ℕ → ℕ → List ℕ → List ℕ → ℕ → ℕ → Type 0
 MasksTagInC before after mm ml hasMl mmOut mlOut t v r mmOut′ mlOut′ t′ v′ =
     WritesTagInC (yes hasMl) (maskTag (yes hasMl) before after mm ml (length mmOut) (length mlOut)) mmOut mlOut t v r mmOut′ mlOut′ t′ v′

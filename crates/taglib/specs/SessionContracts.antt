@@ -1,5 +1,5 @@
--- What each export of the edit session promises to a C program: one proposition for the opening and one for the three steps, over the arguments, the
--- number that is returned and what was lent as the export leaves it. The export's `ensures` cites it, and every theorem about the export takes it.
+-- What each export of the edit session promises to a C program: one proposition for the opening and one for the three steps, about the arguments,
+-- the returned number, and the lent rows and numbers after the call. The export's `ensures` cites it, and every theorem about the export uses it.
 -- Assumes nothing.
 use mathlib.Core.Path.{_≡_}
 use Prim.Native.Nat.{ℕ}
@@ -11,17 +11,17 @@ use Rattle.telling.specs.Told.{told, yes}
 use Rattle.telling_steps.specs.Lengths.{lengthRow, lengthsIn}
 use Rattle.taglib.specs.ReadingContracts.{TellsCallsInC}
 
--- the three rows, and the array of how much of each the session holds
+-- the three rows, and the array that says how much of each row the session holds
 abbrev pub sessionIn : List ℕ → List ℕ → List ℕ → List ℕ → Memory
 sessionIn seq mm ml lengths = memory seq mm ml (lengthsIn lengths)
 
--- `aql_session_open`: the rows, whether there is an ML, and the array; the two numbers as lent; what is returned; the two numbers as left
+-- `aql_session_open`: the rows, whether there is an ML, and the array; the two lent numbers; the returned number; the two numbers after the call
 abbrev pub OpensInC : List ℕ → List ℕ → List ℕ → ℕ → List ℕ → ℕ → ℕ → ℕ → ℕ → ℕ → Type 0
 OpensInC seq mm ml hasMl lengths groups calls r groups′ calls′ =
     TellsCallsInC (openSession (yes hasMl) (sessionIn seq mm ml lengths)) groups calls r groups′ calls′
 
--- `aql_session_mask`, `aql_session_drop_calls` and `aql_session_cut`: the step that is asked for; the rows, whether there is an ML, and the array, as
--- lent; what is returned; rows and array as left (a drop only reads SEQ's row, which is left as lent)
+-- `aql_session_mask`, `aql_session_drop_calls` and `aql_session_cut`: the step that is asked for; the lent rows, whether there is an ML, and the lent
+-- array; the returned number; rows and array after the call (a drop only reads SEQ's row and leaves it unchanged)
 abbrev pub StepsInC : Step → List ℕ → List ℕ → List ℕ → ℕ → List ℕ → ℕ → List ℕ → List ℕ → List ℕ → List ℕ → Type 0
 StepsInC t seq mm ml hasMl lengths r seq′ mm′ ml′ lengths′ =
     let o = stepInMemory (yes hasMl) t (sessionIn seq mm ml lengths) in

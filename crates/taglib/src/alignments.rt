@@ -1,7 +1,7 @@
-// Where an alignment puts a read's bases, and the reference under them.
+// The reference places of a read's bases, and the reference bases there.
 ghost use Rattle.taglib.specs.AlignmentContracts.{FindsPlacesInC, TellsCpgInC, FetchesBasesInC};
 
-// The reference place of each base of a read, -1 where it has none.
+// The reference place of each base of a read, or -1 if it has none.
 #[no_mangle]
 pub extern "C" fn aql_query_to_ref_positions(
     cigar: &[u32],
@@ -22,7 +22,7 @@ pub extern "C" fn aql_query_to_ref_positions(
     telling::written(answer, n)
 }
 
-// 1 where the place is part of a CpG of its strand, else 0.
+// 1 if the place is part of a CpG of its strand, else 0.
 #[no_mangle]
 pub extern "C" fn aql_is_cpg_context(ref_seq: &[u8], pos: usize, is_top_strand: u8) -> u8
     ensures { λ r. ⌜ TellsCpgInC (now («ref_seq» .entry)) pos «is_top_strand» r ⌝ }
@@ -30,7 +30,7 @@ pub extern "C" fn aql_is_cpg_context(ref_seq: &[u8], pos: usize, is_top_strand: 
     alignment::is_cpg_context(ref_seq, pos, is_top_strand != 0) as u8
 }
 
-// The reference's bases at a row of places, 0 where there is none.
+// The reference's base at each place of a row, or 0 if there is none.
 #[no_mangle]
 pub extern "C" fn aql_fetch_ref_bases_at_positions(
     ref_positions: &[i64],

@@ -4,8 +4,8 @@ ghost use Rattle.taglib.specs.DuplexContracts.{DuplexesInC, strandInC};
 use modes::Mode;
 use pattern::ConversionPattern;
 
-// SEQ restored by each strand, MM and ML of both joined, the combined counts, and each strand's own text and counts; the length of each part goes to its
-// entry of `lengths`.
+// Writes SEQ restored by each strand, the joined MM and ML of both, the combined counts, and each strand's own text and counts. The length of each
+// part goes to its entry of `lengths`.
 #[no_mangle]
 pub extern "C" fn aql_duplex_methylation_tags(
     bases: &[u8],

@@ -1,9 +1,9 @@
-// The evidence of one position, and that of a consensus in three columns.
+// The evidence of one position, and the evidence of a consensus in three columns.
 ghost use Rattle.taglib.specs.EvidenceContracts.{StartsEvidenceInC, CountsBaseInC, GatesPositionInC, AnnotatesInC, GatesInC, TruncatesInC, GivesCountsInC, RestoresInC};
 use evidence::MethylationEvidence;
 use pattern::ConversionPattern;
 
-// Evidence of which nothing is counted yet: the counts, and the informative byte as it is written.
+// Evidence with nothing counted yet: the counts, and the informative byte as it is written.
 #[no_mangle]
 pub extern "C" fn aql_evidence_new(
     informative: u8,
@@ -18,7 +18,7 @@ pub extern "C" fn aql_evidence_new(
     e.informative as u8
 }
 
-// Counts one base of a read. Whether the position is informative plays no part in it.
+// Counts one base of a read. Whether the position is informative does not matter.
 #[no_mangle]
 pub extern "C" fn aql_evidence_counted(
     base: u8,
@@ -105,7 +105,7 @@ pub extern "C" fn aql_gate_to_informative(
     telling::written(answer, n)
 }
 
-// The first `len` positions, or all where there are fewer, into three other columns.
+// Copies the first `len` positions, or all if there are fewer, into three other columns.
 #[no_mangle]
 pub extern "C" fn aql_truncate(
     len: usize,

@@ -11,7 +11,7 @@ pub extern "C" fn aql_to_ascii_uppercase(b: u8) -> u8
     pattern::to_ascii_uppercase(b)
 }
 
-// 1 where the two bytes are the same in upper case, else 0.
+// 1 if the two bytes are the same in upper case, else 0.
 #[no_mangle]
 pub extern "C" fn aql_eq_ignore_ascii_case(a: u8, b: u8) -> u8
     ensures { λ r. ⌜ ComparesInC a b r ⌝ }

@@ -18,7 +18,7 @@ pub extern "C" fn aql_check_tag(
     telling::readings::read(answer, groups, calls)
 }
 
-// The calls of a tag in order, into three columns: group, place, and where the call's values start in ML.
+// Writes the calls of a tag in order into three columns: group, place, and the index of the call's first value in ML.
 #[no_mangle]
 pub extern "C" fn aql_read_calls(
     seq: &[u8],
@@ -47,7 +47,7 @@ pub extern "C" fn aql_read_calls(
     telling::readings::read(answer, groups, calls)
 }
 
-// How many values of a tag's ML are above (from 128 on) and how many below. It always takes an ML.
+// How many values of a tag's ML are above (128 or more) and how many below. It always takes an ML.
 #[no_mangle]
 pub extern "C" fn aql_tally(
     seq: &[u8],

@@ -1,7 +1,7 @@
-// A tag rewritten into other rows, after its SEQ was masked or cut, or without the calls at some places.
+// Rewrites a tag into other rows, after its SEQ was masked or cut, or without the calls at some places.
 ghost use Rattle.taglib.specs.RewritingContracts.{MasksTagInC, DropsFromTagInC, CutsTagInC};
 
-// SEQ was masked: the calls go whose base `after` no longer holds, and such a base counts in no later skip.
+// SEQ was masked: a call goes if `after` no longer holds its base, and that base counts in no later skip. A group on N keeps every call.
 #[no_mangle]
 pub extern "C" fn aql_drop_masked_modifications(
     before: &[u8],
@@ -30,7 +30,7 @@ pub extern "C" fn aql_drop_masked_modifications(
     telling::tags::tagged(answer, mm_out_len, ml_out_len)
 }
 
-// The calls at the places go, and SEQ stays, so that their bases still count in later skips.
+// Drops the calls at the places. SEQ stays, so their bases still count in later skips.
 #[no_mangle]
 pub extern "C" fn aql_drop_modifications_at(
     seq: &[u8],

@@ -1,8 +1,8 @@
-// The edit session: SEQ, MM and ML in three rows of the caller's, edited where they stand, with an array of how much of each row it holds.
+// The edit session: SEQ, MM and ML in three rows of the caller, edited in place, with an array that says how much of each row it holds.
 ghost use Rattle.samtags.specs.Session.{cut, dropCalls, mask};
 ghost use Rattle.taglib.specs.SessionContracts.{OpensInC, StepsInC};
 
-// Opens a session: how many groups and calls its tag has. Nothing of it is written.
+// Opens a session: how many groups and calls its tag has. Nothing of the session is written.
 #[no_mangle]
 pub extern "C" fn aql_session_open(
     seq: &[u8],
@@ -21,7 +21,7 @@ pub extern "C" fn aql_session_open(
     telling::readings::read(answer, groups, calls)
 }
 
-// Masks: N at the listed places of SEQ; the calls on these bases go, and they count in no later skip.
+// Masks: writes N at the listed places of SEQ. Calls on these bases go, and the bases count in no later skip, except in a group on N.
 #[no_mangle]
 pub extern "C" fn aql_session_mask(
     seq: &mut [u8],

@@ -1,7 +1,7 @@
 // The program `tagedit` as a function.
 ghost use Rattle.taglib.specs.TranscriptContracts.{TranscribesInC};
 
-// What `tagedit` prints for a whole input, at the front of `out`; the answer is its length. The other rows are to work in.
+// Writes what `tagedit` prints for a whole input to the front of `out`, and returns its length. The other rows are working space.
 #[no_mangle]
 pub extern "C" fn aql_transcript(
     input: &[u8],

@@ -1,4 +1,4 @@
--- An outcome handed on: the number of what a call answered is that of its definition, and a lent number holds its part of it.
+-- Handing on an outcome: the number of a call's answer is the number of its definition, and a lent number holds its part of the outcome.
 -- Assumes nothing.
 use Prim.Native.Nat.{ℕ}
 use mathlib.Core.Path.{_≡_, _∙_, ap, refl}

@@ -1,4 +1,4 @@
--- The answers of the calls that read a tag, handed on: the number of the definition, the two lent numbers, and the columns.
+-- Handing on the answers of the calls that read a tag: the number of the definition, the two lent numbers, and the columns.
 -- Assumes nothing.
 use Prim.Native.Nat.{ℕ}
 use mathlib.Core.Bool.{Bool}

@@ -1,4 +1,4 @@
--- The answers of the calls that rewrite a tag, handed on: the number of the definition, the two lengths, and the two rows.
+-- Handing on the answers of the calls that rewrite a tag: the number of the definition, the two lengths, and the two rows.
 -- Assumes nothing.
 use Prim.Native.Nat.{ℕ}
 use mathlib.Core.Bool.{Bool}

@@ -1,8 +1,8 @@
-// An answer as a caller gets it that knows only numbers: the scope's number comes back, and what was asked for goes into lent numbers, which a refusal
-// leaves as they were. A support crate of the C library.
+// Passes an answer to a caller that has only numbers: the scope's number is returned, and the results go into lent numbers, which a refusal leaves
+// unchanged. A support crate of the C library.
 //
-// Here: how many entries are filled. readings: a tag that was read. starts: where a window begins. tags: a written tag. A session's step is told by
-// `telling_steps`, and the lengths of a duplex answer by `telling_strands`.
+// Here: how many entries are filled. readings: a tag that was read. starts: where a window begins. tags: a written tag. `telling_steps` passes on a
+// session's step, and `telling_strands` the lengths of a duplex answer.
 pub mod readings;
 pub mod starts;
 pub mod tags;
@@ -13,7 +13,7 @@ ghost use Rattle.lent.specs.Outcome.{numberOf, says};
 ghost use Rattle.telling.specs.Told.{told};
 use lent::Written;
 
-// How many entries are filled.
+// Passes on how many entries are filled.
 pub fn written(answer: Written, n: &mut usize) -> u8
     ensures { λ r. ⌜ (r ≡ numberOf (says answer)) × (now (n .exit) ≡ told (λ (m : ℕ). m) (says answer) (now (n .entry))) ⌝ }
 {

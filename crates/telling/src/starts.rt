@@ -1,4 +1,4 @@
-// A window's start, which comes as two numbers: whether it is known, and where it is.
+// A window's start from two numbers: whether it is known, and where it is.
 ghost use mathlib.Core.Path.{_≡_};
 ghost use Rattle.rewriting.specs.Starts.{startSays};
 ghost use Rattle.telling.specs.Starts.{givenStart};

@@ -1,4 +1,4 @@
--- The answers of a session's opening and of its steps, handed on: the number of the definition, the lengths, and the three rows.
+-- Handing on the answers of a session's opening and of its steps: the number of the definition, the lengths, and the three rows.
 -- Assumes nothing.
 use Prim.Native.Nat.{ℕ}
 use mathlib.Core.Bool.{Bool}

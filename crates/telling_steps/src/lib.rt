@@ -1,4 +1,4 @@
-// A session's lengths, which come and go as an array of three, and the answer of a step: its new lengths. A support crate of the C library.
+// A session's lengths as an array of three, and the answer of a step: its new lengths. A support crate of the C library.
 ghost use mathlib.Core.Path.{_≡_};
 ghost use Rattle.lent.specs.Outcome.{numberOf};
 ghost use Rattle.stepping.specs.Steps.{stepSays};

@@ -1,5 +1,5 @@
 -- The lengths of a duplex answer as an array, in the order of its parts: SEQ, MM and ML, the combined counts, the first strand's text and counts, the
--- second's.
+-- second strand's text and counts.
 -- Assumes nothing.
 use Prim.Native.Nat.{ℕ}
 use mathlib.Core.List.{List, [], _∷_}

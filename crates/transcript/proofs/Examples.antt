@@ -1,4 +1,4 @@
--- The scope's case, and the edges of the form, by computation.
+-- The scope's case, and the edge cases of the input's form, by computation.
 -- Assumes nothing.
 use mathlib.Core.Path.{_≡_, refl}
 use Prim.Native.String.{String}
@@ -13,7 +13,7 @@ pub scope-case : Prints "SQACCGTCC\nMMC+m?,0,1,0;\nML200,90,30\nMK1\nDR5\nCU3,0\
 unfolding transcriptOf
 scope-case = refl
 
--- SQ and MM stand first, once, in that order
+-- SQ and MM come first, once, in that order
 pub openings :
     (Prints "" "AN13\n")
     × (Prints "\n" "AN13\n")
@@ -30,7 +30,7 @@ pub openings :
     -- nothing follows a refused opening
     × (Prints "SQC\nMMC+m?,1;\nMK0\n" "AN7\n")
     × (Prints "SQ\nMM\n" "AN4\n")
-    -- what stands once stands once
+    -- a line that may come once comes once
     × (Prints "SQC\nMMC+m?,0;\nSQC\n" "AN0\nAN13\n")
     × (Prints "SQC\nMMC+m?,0;\nMMC+m?,0;\n" "AN0\nAN13\n")
     × (Prints "SQC\nMMC+m?,0;\nML7\nML7\n" "AN0\nAN13\n")

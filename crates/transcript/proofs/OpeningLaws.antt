@@ -1,4 +1,4 @@
--- The opening: what the first lines of the input come to, by their marks; and the desk, once SEQ, the text and the ML are laid on it.
+-- The opening: the result of the first lines of the input, by their marks; and the desk after SEQ, the text and ML are laid on it.
 -- Assumes nothing.
 use mathlib.Core.Path.{_≡_, refl, sym, ap, _∙_}
 use Prim.Native.Nat.{ℕ, _+_, _≤_, _<_}
@@ -108,7 +108,7 @@ pub no-values-of : (l : List ℕ) → valuesIn (bodyOf l) ≡ none → valuesOf 
 unfolding valuesOf
 no-values-of l e = e
 
--- they have room, and stand at the front of their row
+-- they have room, and are at the front of their row
 pub values-fit : (l vs : List ℕ) → valuesOf l ≡ some vs → length l ≤ 65536 → length vs ≤ 32768
 values-fit l vs e h = omega (arith, values-short l vs e .few, length-drop 2 l)
 

@@ -1,5 +1,5 @@
--- What the transcript of a session tells: where every line after the opening asks for a step, the answers and the closing lines are those of the
--- session, and so what demand 3 says that a session means.
+-- What the transcript of a session tells. If every line after the opening asks for a step, the answers and the closing lines are those of the session. So
+-- they are what demand 3 says that a session means.
 -- Assumes nothing.
 use mathlib.Core.Path.{_≡_, refl, sym, ap, subst, _∙_}
 use Prim.Native.Nat.{ℕ, _≤_}
@@ -43,7 +43,7 @@ good-lines ml? (l ∷ ls) (t ∷ ts) s e =
     (ap (λ (r : List ℕ). answerLine (numberOf (stepped ml? t s)) ++ r) (good-lines ml? ls ts next rest)
     ∙ sym (append-assoc (answerLine (numberOf (stepped ml? t s))) (concatMap answerLine (answers ml? ts next)) (closing ml? (run ml? ts next))))
 
--- The output from the opening on: 0, the answers that the session means, and at the end a SEQ and a tag that lists what the session means.
+-- The output of a session: 0 for the opening, the answers that the session means, and at the end a SEQ and a tag that lists what the session means.
 pub record Tells (ml? : Bool) (s : Held) (listed : List Listing) (ts : List Step) (output : List ℕ) : Type 0 where
   pub held : Held
   pub printed : output ≡ answerLine 0 ++ (concatMap answerLine (answersTo listed ts (opening (s .seq))) ++ closing ml? held)
@@ -92,7 +92,7 @@ third-is-a-step seq text (l ∷ ls) (t ∷ ts) e =
 
 -- `transcript` on an input of at most 65,536 bytes whose first lines are these: it filled r bytes of the row lent as `out`, and left it as out′.
 module _ (input seq text : List ℕ) (fits : length input ≤ 65536) (out : List ℕ) (r : ℕ) (out′ : List ℕ) (told : Transcribes input out r out′) where
-  -- what stands at the front of the row is the output
+  -- the front of the row is the output
   printed : take r out′ ≡ transcriptOf input
   printed = rw (told .0, told .1) (over-front (transcriptOf input) out)
 
@@ -100,7 +100,7 @@ module _ (input seq text : List ℕ) (fits : length input ≤ 65536) (out : List
   unfolding transcriptOf fromFirst fromSecond
   from-lines ls e = rw (le-leb (length input) 65536 fits, e)
 
-  -- a session with an ML, told by the program
+  -- a session with ML, as the program tells it
   pub tells-with-ml : (line ml : List ℕ) (ls : List (List ℕ)) (ts : List Step) (listed : List Listing)
       → linesOf input ≡ (ascii "SQ" ++ seq) ∷ (ascii "MM" ++ text) ∷ line ∷ ls → hasMark "ML" line ≡ true → valuesOf line ≡ some ml
       → readTag true seq text ml ≡ done listed → map stepOf ls ≡ map some ts
@@ -111,7 +111,7 @@ module _ (input seq text : List ℕ) (fits : length input ≤ 65536) (out : List
       subst (Tells true (record { seq = seq; text = text; ml = ml }) listed ts) (sym (printed ∙ from-lines (line ∷ ls) e ∙ third))
       (session-told true seq text ml listed read ls ts g)
 
-  -- and one without
+  -- a session without ML, as the program tells it
   pub tells-without-ml : (ls : List (List ℕ)) (ts : List Step) (listed : List Listing)
       → linesOf input ≡ (ascii "SQ" ++ seq) ∷ (ascii "MM" ++ text) ∷ ls → readTag false seq text [] ≡ done listed → map stepOf ls ≡ map some ts
       → Tells false (record { seq = seq; text = text; ml = [] }) listed ts (take r out′)

@@ -1,5 +1,5 @@
--- The room of the output. A step's line has at least four bytes with its LF, and its answer at most five; what is held at the end is no longer than
--- the lines that it came with.
+-- The room of the output. A step's line has at least four bytes with its LF, and its answer at most five. What is held at the end is no longer than the
+-- lines that gave it at the opening.
 -- Assumes nothing.
 use mathlib.Core.Path.{_≡_, refl}
 use Prim.Native.Nat.{ℕ, _+_, _-_, _*_, _≤_}
@@ -125,7 +125,7 @@ first-room (l ∷ ls) n h =
 
 -- ---- the whole output
 
--- four bytes of output for five of input, but for the opening's answer and an LF that the last line may lack
+-- five bytes of output for four of input, but for the opening's answer and an LF that the last line may lack
 pub room-of : (input : List ℕ) → 4 * length (transcriptOf input) ≤ 16 + 5 * (length input + 1)
 unfolding transcriptOf
 room-of input =

@@ -1,4 +1,5 @@
--- What the contract of `transcript` says: one proposition, which its `ensures` cites and every theorem about the code takes.
+-- The promise of `transcript`: one proposition, about its input, its answer and the lent row after the call. The call's `ensures` cites it, and every
+-- theorem about the call uses it.
 -- Assumes nothing.
 use mathlib.Core.Path.{_≡_}
 use Prim.Native.Nat.{ℕ}
@@ -7,6 +8,6 @@ use lib.ListN.{length}
 use Rattle.lent.specs.Filled.{over}
 use Rattle.transcript.specs.Transcript.{transcriptOf}
 
--- On this input, with `out` lent for the output: r bytes are filled, and the row is left as out′, the output at its front and the rest as lent.
+-- For this input, with `out` lent for the output: r bytes are filled, and the row is out′ after the call, with the output at its front and the rest unchanged.
 abbrev pub Transcribes : List ℕ → List ℕ → ℕ → List ℕ → Type 0
 Transcribes input out r out′ = (r ≡ length (transcriptOf input)) × (out′ ≡ over (transcriptOf input) out)

@@ -12,18 +12,18 @@ use Rattle.samtags.specs.Session.{Held}
 use Rattle.lines.specs.Lines.{linesOf, hasMark, bodyOf, valuesOf, given, answerLine}
 use Rattle.serving.specs.Serving.{afterOpening}
 
--- the opening is answered as the reader does; where it is refused nothing follows
+-- the opening is answered as the reader does; if it is refused, nothing follows
 unfoldable pub opened : Bool → List (List ℕ) → Held → Outcome (List Listing) → List ℕ
 unfolding afterOpening answerLine
 opened ml? ls s (refused r) = answerLine (r .0)
 opened ml? ls s (done listed) = answerLine 0 ++ afterOpening ml? ls s
 
--- SEQ, MM and ML have come
+-- the output once SEQ, MM and ML are read
 unfoldable pub openedOn : Bool → List ℕ → List ℕ → List ℕ → List (List ℕ) → List ℕ
 unfolding opened readTag
 openedOn ml? seq text ml ls = opened ml? ls (record { seq = seq; text = text; ml = ml }) (readTag ml? seq text ml)
 
--- SEQ and MM have come: a third line that is marked ML is read before the opening is answered
+-- the output once SEQ and MM are read: a third line that is marked ML is read before the opening is answered
 unfoldable pub fromThird : List ℕ → List ℕ → List (List ℕ) → List ℕ
 unfolding valuesOf answerLine openedOn
 fromThird seq text [] = openedOn false seq text [] []
@@ -32,7 +32,7 @@ fromThird seq text (l ∷ ls) =
     (given (valuesOf l) (answerLine 13) (λ ml. openedOn true seq text ml ls))
     (openedOn false seq text [] (l ∷ ls))
 
--- SEQ has come
+-- the output once SEQ is read
 unfoldable pub fromSecond : List ℕ → List (List ℕ) → List ℕ
 unfolding answerLine fromThird
 fromSecond seq [] = answerLine 13

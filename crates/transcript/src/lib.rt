@@ -1,8 +1,8 @@
-// From the whole input of `tagedit` to its whole output. Port step 8: the program's `main` reads its input, lends the desk and the output, and prints
-// what this function says.
+// From the whole input of `tagedit` to its whole output. Port step 8: the program's `main` reads its input, lends the desk (the rows in which the
+// session works) and the output, and prints what this function writes.
 //
-// Number rules: plain decimals, leading zeros allowed, of any length; an ML value is at most 255, a place and an end of a cut at most 4294967295.
-// A number past its bound makes its line bad, as a byte that is no digit does.
+// Number rules: plain decimals, leading zeros allowed, of any length; an ML value is at most 255, a place and an end of a cut at most 4294967295. A
+// number above its bound makes its line bad, and so does a byte that is no digit.
 ghost use mathlib.Core.Path.{_≡_};
 ghost use Prim.Native.Nat.{_+_, _≤_};
 ghost use lib.ListN.{length, drop, take};
@@ -26,8 +26,8 @@ fn opening_number(reading: Reading) -> usize
     }
 }
 
-// SEQ, MM and ML have come, the ML's values at the front of its row. The opening is answered on the input's own lines, so that a SEQ that is too long
-// is refused before anything is copied; then SEQ and the text are laid on the desk, and the lines that follow are answered.
+// SEQ, MM and ML are read, and the ML's values are at the front of its row. The opening is answered on the input's own lines, so that a SEQ that is
+// too long is refused before anything is copied. Then SEQ and the text are copied to the desk, and the lines that follow are answered.
 fn open_session(
     input: &[u8],
     place: usize,
@@ -61,7 +61,7 @@ fn open_session(
     serving::answer_rest(input, place, seq, mm, ml, has_ml, lengths, out, end)
 }
 
-// SEQ and MM have come. A third line that is marked ML is read before the opening is answered.
+// SEQ and MM are read. A third line that is marked ML is read before the opening is answered.
 fn from_third(
     input: &[u8],
     place: usize,
@@ -95,7 +95,7 @@ fn from_third(
     open_session(input, next, bases, text, values, true, seq, mm, ml, out)
 }
 
-// SEQ has come. Any second line but an MM is bad, and so is the input's end.
+// SEQ is read. Any second line except an MM line is bad, and so is the end of the input.
 fn from_second(
     input: &[u8],
     place: usize,
@@ -123,7 +123,7 @@ fn from_second(
     from_third(input, next, bases, text, seq, mm, ml, out)
 }
 
-// From the first line on. Any first line but an SQ is bad, and so is the input's end.
+// From the first line on. Any first line except an SQ line is bad, and so is the end of the input.
 fn from_first(input: &[u8], seq: &mut [u8], mm: &mut [u8], ml: &mut [u8], out: &mut [u8]) -> usize
     requires { ⌜ length (now input) ≤ 65536 ⌝ }
     requires { ⌜ DeskFits (now seq) (now mm) (now ml) ⌝ }
@@ -143,9 +143,9 @@ fn from_first(input: &[u8], seq: &mut [u8], mm: &mut [u8], ml: &mut [u8], out: &
     from_second(input, next, bases, seq, mm, ml, out)
 }
 
-// The whole output for the whole input: how many bytes of `out` it fills; the bytes past them stay as they were. `seq`, `mm` and `ml` are the desk on
-// which the session works, whatever they hold, and nothing is said of what they hold afterwards. An input of more than 65,536 bytes is answered with 1
-// alone.
+// Writes the whole output for the whole input, and returns how many bytes of `out` it fills; the bytes after them are unchanged. `seq`, `mm` and `ml`
+// are the desk in which the session works. They may have any contents, and nothing is promised about their contents afterwards. An input of more than
+// 65,536 bytes is answered with 1 alone.
 pub fn transcript(
     input: &[u8],
     seq: &mut [u8; 16000],

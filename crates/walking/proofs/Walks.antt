@@ -1,4 +1,5 @@
--- The walk at an operation that a loop has come to, the places of one operation one by one, and how far the places reach; each for both directions.
+-- Laws of the walk, for both directions: the walk from the loop's present operation on, the places of one operation one by one, and how far the places
+-- reach.
 -- Assumes nothing.
 use mathlib.Core.Path.{_≡_, refl, sym, ap, _∙_}
 use mathlib.Core.Bool.{Bool, true, false}

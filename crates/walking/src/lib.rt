@@ -1,5 +1,5 @@
-// The walk over an alignment's operations, forward or backward, which puts each base's place into a lent row. A support crate: a function here may
-// ask its caller for room and for places that an i64 holds (`requires`); the public calls stand in `alignment`.
+// The walk over an alignment's operations, forward or backward. It writes each base's place into a lent row. A support crate: its functions may have
+// a `requires` (room, and places that an i64 holds); the public calls are in `alignment`.
 ghost use mathlib.Core.Path.{_≡_};
 ghost use Prim.Native.Nat.{_+_, _<_, _≤_, _^_};
 ghost use lib.ListN.{length, getD, replicate};
@@ -13,7 +13,7 @@ use cigar::takes_places;
 
 // ---- where the walk is
 
-// Operation i as the walk comes to it.
+// Operation i in the walk's order.
 fn word_at(cigar: &[u32], i: usize, is_reverse: bool) -> u32
     requires { ⌜ i < length (now cigar) ⌝ }
     ensures { λ r. ⌜ r ≡ getD (inOrder «is_reverse» (now (cigar .entry))) i 0 ⌝ }
@@ -24,7 +24,7 @@ fn word_at(cigar: &[u32], i: usize, is_reverse: bool) -> u32
     cigar[i]
 }
 
-// Where the walk begins. Backward it is the place behind the last one, so that a walk down to place 0 does not pass below it.
+// The place where the walk begins. Backward, it is the place after the last one, so that a walk down to place 0 does not go below 0.
 pub fn outset(cigar: &[u32], start: u64, is_reverse: bool) -> u64
     requires { ⌜ start + referenceSpan (now cigar) < 2 ^ 64 ⌝ }
     ensures { λ r. ⌜ r ≡ outset «is_reverse» (now (cigar .entry)) start ⌝ }
@@ -45,7 +45,7 @@ fn moved(place: u64, n: u64, is_reverse: bool) -> u64
     place + n
 }
 
-// Base i's place, of an operation that begins at `place`.
+// The place of base i of an operation that begins at `place`.
 fn place_of(place: u64, i: u64, is_reverse: bool) -> i64
     requires { ⌜ Reaches «is_reverse» place (i + 1) ⌝ }
     ensures { λ r. ⌜ r ≡ placeOf «is_reverse» place i ⌝ }
@@ -56,7 +56,7 @@ fn place_of(place: u64, i: u64, is_reverse: bool) -> i64
     (place + i) as i64
 }
 
-// ---- what it puts
+// ---- what the walk writes
 
 fn put_places(place: u64, n: usize, is_reverse: bool, out: &mut [i64])
     requires { ⌜ (n ≤ length (now out)) × Reaches «is_reverse» place n ⌝ }
@@ -81,7 +81,7 @@ fn put_missing(n: usize, out: &mut [i64])
     }
 }
 
-// The bases of one operation, into the room that begins where the last one ended. An operation that takes no bases writes nothing, however long.
+// Writes the places of one operation's bases to the front of `out`. An operation that takes no bases writes nothing, however long it is.
 fn put_operation(word: u32, place: u64, is_reverse: bool, out: &mut [i64])
     requires { ⌜ (basesTaken word ≤ length (now out)) × Reaches «is_reverse» place (placesTaken word) ⌝ }
     ensures { λ _. ⌜ now (out .exit) ≡ over (placed word (run «is_reverse» place (basesTaken word))) (now (out .entry)) ⌝ }
@@ -94,7 +94,7 @@ fn put_operation(word: u32, place: u64, is_reverse: bool, out: &mut [i64])
     }
 }
 
-// All operations from the walk's outset on. A place that the walk moves past costs nothing: a deletion of any length is one step.
+// Walks over all operations from the outset on. Places without a base cost no time: a deletion of any length is one step.
 pub fn walk(cigar: &[u32], outset: u64, is_reverse: bool, positions: &mut [i64])
     requires { ⌜ (queryLength (now cigar) ≤ length (now positions)) × Reaches «is_reverse» outset (referenceSpan (now cigar)) ⌝ }
     ensures { λ _. ⌜ now (positions .exit) ≡ over (walked «is_reverse» outset (inOrder «is_reverse» (now (cigar .entry)))) (now (positions .entry)) ⌝ }

@@ -1,4 +1,4 @@
--- Whether a cut is one, byte by byte.
+-- Whether a row lies in another as a window, byte by byte.
 -- Assumes nothing.
 use mathlib.Core.Path.{_≡_, refl, _∙_}
 use Prim.Native.Nat.{ℕ, _+_, _≤_, _<_}

@@ -1,5 +1,5 @@
-// What stands after an edit, against what stood before: whether it is the same, and whether a cut is one. A support crate: a function here may ask
-// something of its caller (`requires`).
+// Compares SEQ after an edit with SEQ before it: whether they are the same, and whether the edited SEQ is a window of the old one. A support crate:
+// its functions may have a `requires`.
 ghost use mathlib.Core.Path.{_≡_};
 ghost use Prim.Native.Nat.{_+_, _≤_};
 ghost use mathlib.Core.Bool.{_&&_, _||_};
@@ -9,7 +9,7 @@ ghost use Rattle.samtags.specs.Edits.{sameBytes, isMasked, liesIn};
 ghost use Rattle.strides.specs.Counts.{Told};
 use strides::Window;
 
-// Whether a block of two rows is the same from a place on. Each of its bytes is looked at, sixteen of them in one step.
+// Whether a block of two rows is the same, from an index on. It looks at each byte of the block, sixteen in one step.
 fn same_block(a: &[u8], b: &[u8], from: usize, size: usize) -> bool
     requires { ⌜ (from + size ≤ length (now a)) × (from + size ≤ length (now b)) ⌝ }
     ensures { λ r. ⌜ r ≡ sameBytes (take size (drop from (now (a .entry)))) (take size (drop from (now (b .entry)))) ⌝ }
@@ -24,7 +24,7 @@ fn same_block(a: &[u8], b: &[u8], from: usize, size: usize) -> bool
     same
 }
 
-// The same bytes: block by block, up to the first that differs.
+// Whether the bytes are the same: compares block by block, up to the first block that differs.
 pub fn same_bytes(a: &[u8], b: &[u8]) -> bool
     ensures { λ r. ⌜ r ≡ sameBytes (now (a .entry)) (now (b .entry)) ⌝ }
 {
@@ -42,7 +42,7 @@ pub fn same_bytes(a: &[u8], b: &[u8]) -> bool
     same_block(a, b, i, a.len() - i)
 }
 
-// The window of an edit after which `after` stands from place lo of SEQ on, which says so where that is SEQ itself.
+// The window of an edit after which `after` begins at place lo of SEQ. If its flag is set, `after` is SEQ itself.
 pub fn window_of(seq: &[u8], after: &[u8], lo: usize) -> Window
     ensures { λ r. ⌜ (r .lo ≡ lo) × Told r (now (after .entry)) (now (seq .entry)) ⌝ }
 {
@@ -56,7 +56,7 @@ pub fn window_of(seq: &[u8], after: &[u8], lo: usize) -> Window
     Window { lo: lo, same: same }
 }
 
-// A byte after a cut: the one that stood there, or masked.
+// Whether a byte may be there after a cut: it is the old byte, or masked.
 fn stands(b: u8, stood: u8) -> bool
     ensures { λ r. ⌜ r ≡ (eqb b stood || isMasked b) ⌝ }
 {
@@ -66,7 +66,7 @@ fn stands(b: u8, stood: u8) -> bool
     b == b'N' || b == b'n'
 }
 
-// From place lo of SEQ on, each byte of `after` is the one that stood there, or masked.
+// Whether each byte of `after` is the old byte of SEQ, from place lo on, or masked.
 pub fn lies_in(after: &[u8], seq: &[u8], lo: usize) -> bool
     ensures { λ r. ⌜ r ≡ (leb lo (length (now (seq .entry))) && liesIn (now (after .entry)) (drop lo (now (seq .entry)))) ⌝ }
 {

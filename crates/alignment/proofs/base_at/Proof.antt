@@ -1,4 +1,4 @@
--- `base_at`: a negative place, one on the reference, one off its end.
+-- `base_at`, by cases: the place is negative, on the reference, or past its end.
 -- Assumes nothing.
 use mathlib.Core.Path.{_≡_, sym}
 use Prim.Native.Nat.{_≤_}

@@ -1,4 +1,4 @@
--- `fetch_ref_bases_at_positions` stores one base after the other. The invariant: the row holds the bases so far over what was lent.
+-- `fetch_ref_bases_at_positions` stores one base after the other. Invariant: the front of the row holds the bases so far, and the rest is unchanged.
 -- Assumes nothing.
 use mathlib.Core.Path.{_≡_, refl, sym, _∙_}
 use mathlib.Core.List.{List, map}

@@ -1,4 +1,4 @@
--- `holds_at`: off the reference, and on it the letter in any case.
+-- `holds_at`, by cases: the place is past the reference's end, or its base is compared with the letter in upper or lower case.
 -- Assumes nothing.
 use native.Mathlib.Omega.{arith}
 use lib.ListN.{length}

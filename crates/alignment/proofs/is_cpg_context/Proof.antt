@@ -1,4 +1,4 @@
--- `is_cpg_context`: the pair that begins at the place, and for the bottom strand the one that begins before it.
+-- `is_cpg_context`: a C and a G at the place and the next one, and for the bottom strand at the previous place and the place itself.
 -- Assumes nothing.
 use mathlib.Core.Path.{_≡_, ap, _∙_}
 use mathlib.Core.Bool.{_&&_, and-comm}

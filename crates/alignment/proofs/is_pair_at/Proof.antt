@@ -1,4 +1,4 @@
--- `is_pair_at`: the C, and behind it the G.
+-- `is_pair_at`: a C at the place, and a G at the next one.
 -- Assumes nothing.
 use mathlib.Core.Path.{_≡_, sym, _∙_}
 use mathlib.Core.Bool.{true}
@@ -14,7 +14,7 @@ use Rattle.alignment.specs.Reference.{holdsAt}
 use Rattle.alignment.proofs.is_pair_at.Statement.{statement}
 use Rattle.alignment.proofs.is_pair_at.Tie as tie
 
--- past the first test the C stands there
+-- after the first test the C is known to be there
 stands : (c : tie.Else1) → holdsAt (c .before .before .before .args .reference .now) (c .before .before .before .args .place) 67 ≡ true
 stands c = sym (c .before .holds-at .ensures) ∙ not-false (c .before .holds-at .result) (c .if1 .left)
 

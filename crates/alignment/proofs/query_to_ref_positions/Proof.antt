@@ -1,4 +1,4 @@
--- `query_to_ref_positions` passes the check's refusal on, asks for the room, and walks.
+-- `query_to_ref_positions` passes on the check's refusal, checks the room, and walks.
 -- Assumes nothing.
 use mathlib.Core.Path.{_≡_, sym, ap, _∙_}
 use mathlib.Core.List.{List}

@@ -1,4 +1,4 @@
--- `annotate_simplex_methylation` passes a refusal on, and else lends the front of each column to be filled.
+-- `annotate_simplex_methylation` passes on a refusal. Otherwise it lends the front of each column to `counting::fill`.
 -- Assumes nothing.
 use mathlib.Core.Path.{_≡_, sym, _∙_}
 use Prim.Native.Nat.{ℕ, _-_}

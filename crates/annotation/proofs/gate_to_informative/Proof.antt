@@ -1,4 +1,4 @@
--- `gate_to_informative` passes a refusal on, and else gates both columns of counts.
+-- `gate_to_informative` passes on a refusal. Otherwise it gates both columns of counts.
 -- Assumes nothing.
 use mathlib.Core.Bool.{cond}
 use Prim.Native.Nat.{ℕ}

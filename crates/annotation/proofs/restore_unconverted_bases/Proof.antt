@@ -1,4 +1,4 @@
--- `restore_unconverted_bases` passes a refusal on, and else restores the bases in place.
+-- `restore_unconverted_bases` passes on a refusal. Otherwise it restores the bases in place.
 -- Assumes nothing.
 use mathlib.Core.Bool.{cond, _&&_}
 use Prim.Native.Nat.{ℕ}

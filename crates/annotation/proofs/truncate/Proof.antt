@@ -1,4 +1,4 @@
--- `truncate` passes a refusal on, and else fills the front of each row with as many positions as are kept.
+-- `truncate` passes on a refusal. Otherwise it copies the positions that are kept to the front of each row.
 -- Assumes nothing.
 use mathlib.Core.Path.{_≡_, sym, ap, _∙_}
 use mathlib.Core.List.{List}

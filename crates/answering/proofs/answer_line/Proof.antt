@@ -1,4 +1,4 @@
--- `answer_line`: by the line's mark.
+-- `answer_line`, by cases of the line's mark.
 -- Assumes nothing.
 use mathlib.Core.Path.{_∙_, _≡_, ap, subst, sym}
 use mathlib.Core.Bool.{false, true}

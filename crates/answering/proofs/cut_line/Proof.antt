@@ -1,4 +1,4 @@
--- `cut_line`: two numbers, and the cut.
+-- `cut_line` reads two numbers, and cuts.
 -- Assumes nothing.
 use mathlib.Core.Path.{_∙_, ap, subst, sym}
 use mathlib.Core.Option.{none}

@@ -1,4 +1,4 @@
--- `drop_line`: the places are marked in a row that had no mark, and then the calls there go.
+-- `drop_line` marks the places in a row without marks, and then drops the calls there.
 -- Assumes nothing.
 use mathlib.Core.Path.{_∙_, _≡_, ap, subst, sym}
 use Prim.Native.Nat.{_<_, ℕ}

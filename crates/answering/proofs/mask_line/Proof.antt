@@ -1,4 +1,4 @@
--- `mask_line`: a copy of SEQ's front, N at its places, and the mask.
+-- `mask_line` copies the front of SEQ, writes N at the listed places of the copy, and masks.
 -- Assumes nothing.
 use mathlib.Core.Path.{_∙_, _≡_, ap, subst, sym}
 use Prim.Native.Nat.{_-_}

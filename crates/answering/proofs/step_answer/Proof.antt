@@ -1,4 +1,4 @@
--- `step_answer`: by the step's two cases.
+-- `step_answer`, by the two cases of the step's answer.
 -- Assumes nothing.
 use mathlib.Core.Path.{ap, sym}
 use borrow.Author.Needs.{needs}

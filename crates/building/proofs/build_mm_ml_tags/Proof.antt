@@ -1,4 +1,4 @@
--- `build_mm_ml_tags`: a refusal is passed on, 12 where a row has no room, else the strand's tag is stored.
+-- `build_mm_ml_tags` passes on a refusal, answers 12 if a row has no room, and otherwise stores the strand's tag.
 -- Assumes nothing.
 use mathlib.Core.Path.{_∙_, ap, refl, sym}
 use Prim.Native.Nat.{_≤_}
@@ -20,7 +20,6 @@ use Rattle.building.proofs.build_mm_ml_tags.Lts as lts
 use Rattle.building.proofs.measure.Reads as measure-reads
 use Rattle.strand.proofs.put_tag.Reads as put-tag-reads
 
--- src/lib.rt:73:9
 -- what the first pass found out
 found : (c : tie.After-known-told) →
     let a = c .before .before .before .before .before .before .before .before .before .before .args in
@@ -35,15 +34,12 @@ found c =
 measure-requires : tie.Need-measure-requires
 measure-requires c κs = search needs
 
--- src/lib.rt:81:22
 enum-known-asked : tie.Need-enum-known-asked
 enum-known-asked c = search needs
 
--- src/lib.rt:82:9
 enum-told : tie.Need-enum-told
 enum-told c = search needs
 
--- src/lib.rt:82:9
 returns : tie.Need-returns
 unfolding leaves
 returns c =
@@ -55,7 +51,6 @@ returns c =
     (sym (m .ensures) ∙ ap tagSays (told .1)) in
     rw (off, told .1) (refl, refl, refl)
 
--- src/lib.rt:85:9
 returns-2 : tie.Need-returns-2
 unfolding leaves buildTag
 returns-2 c =
@@ -65,7 +60,6 @@ returns-2 c =
     let own : Tag = ownTag (a .methylation-mode) (a .pattern) ev (a .consensus-bases .now) in
     rw (f .built, no-room-for-text (length (a .mm .now)) (length (a .ml .now)) own true (omega (arith, f .text))) (refl, refl, refl)
 
--- src/lib.rt:88:9
 returns-3 : tie.Need-returns-3
 unfolding leaves buildTag
 returns-3 c =
@@ -75,21 +69,17 @@ returns-3 c =
     let own : Tag = ownTag (a .methylation-mode) (a .pattern) ev (a .consensus-bases .now) in
     rw (f .built, no-room-for-ml (length (a .mm .now)) (length (a .ml .now)) own (omega (arith, f .text)) (omega (arith, f .values))) (refl, refl, refl)
 
--- src/lib.rt:90:5
 put-tag-requires : tie.Need-put-tag-requires
 put-tag-requires c κs =
     let f = found (c .before .before .before .before) in
     ((f .lengths .short, f .lengths .inf, f .lengths .unc, f .lengths .con), f .values)
 
--- src/lib.rt:56:1
 same-length : tie.Need-same-length
 same-length c = search needs
 
--- src/lib.rt:56:1
 same-length-2 : tie.Need-same-length-2
 same-length-2 c = search needs
 
--- src/lib.rt:56:1
 returns-4 : tie.Need-returns-4
 unfolding leaves buildTag
 returns-4 c =

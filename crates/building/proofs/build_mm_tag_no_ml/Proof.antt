@@ -1,4 +1,4 @@
--- `build_mm_tag_no_ml`: a refusal is passed on, 12 where the row has no room, else the strand's text is stored.
+-- `build_mm_tag_no_ml` passes on a refusal, answers 12 if the row has no room, and otherwise stores the strand's text.
 -- Assumes nothing.
 use mathlib.Core.Path.{_∙_, ap, refl, sym}
 use Prim.Native.Nat.{_≤_}
@@ -21,7 +21,6 @@ use Rattle.building.proofs.measure.Reads as measure-reads
 use Rattle.lent.proofs.Tagged.refusal.Reads as refusal-reads
 use Rattle.strand.proofs.put_tag.Reads as put-tag-reads
 
--- src/lib.rt:121:9
 -- what the first pass found out
 found : (c : tie.After-known-told) →
     let a = c .before .before .before .before .before .before .before .before .before .args in
@@ -36,19 +35,15 @@ found c =
 measure-requires : tie.Need-measure-requires
 measure-requires c κs = search needs
 
--- src/lib.rt:129:22
 enum-known-asked : tie.Need-enum-known-asked
 enum-known-asked c = search needs
 
--- src/lib.rt:130:33
 enum-told : tie.Need-enum-told
 enum-told c = search needs
 
--- src/lib.rt:130:33
 refusal-requires : tie.Need-refusal-requires
 refusal-requires c κs = search needs
 
--- src/lib.rt:130:9
 returns : tie.Need-returns
 unfolding leaves
 returns c =
@@ -60,7 +55,6 @@ returns c =
     (sym (m .ensures) ∙ ap tagSays (told .1)) in
     rw off (ap refused (c .refusal .ensures ∙ ap tagRefusal (told .1)), refl)
 
--- src/lib.rt:133:9
 returns-2 : tie.Need-returns-2
 unfolding leaves buildTag
 returns-2 c =
@@ -70,21 +64,17 @@ returns-2 c =
     let own : Tag = ownTag (a .methylation-mode) (a .pattern) ev (a .consensus-bases .now) in
     rw (f .built, no-room-for-text (length (a .mm .now)) 0 own false (omega (arith, f .text))) (refl, refl)
 
--- src/lib.rt:145:9
 slice-aggregate-put-tag : tie.Need-slice-aggregate-put-tag
 slice-aggregate-put-tag c = search needs
 
--- src/lib.rt:136:5
 put-tag-requires : tie.Need-put-tag-requires
 put-tag-requires c κs =
     let f = found (c .before .before .before) in
     ((f .lengths .short, f .lengths .inf, f .lengths .unc, f .lengths .con), f .values)
 
--- src/lib.rt:106:1
 same-length : tie.Need-same-length
 same-length c = search needs
 
--- src/lib.rt:106:1
 returns-3 : tie.Need-returns-3
 unfolding leaves buildTag
 returns-3 c =

@@ -1,4 +1,4 @@
--- `measure`: the checks in order, then the strand's own tag.
+-- `measure` makes the checks in order, and then measures the strand's own tag.
 -- Assumes nothing.
 use mathlib.Core.Path.{_∙_, _≡_, ap, sym}
 use Prim.Native.Nat.{_<_}
@@ -21,11 +21,9 @@ use Rattle.strand.proofs.agree.Reads as agree-reads
 use Rattle.strand.proofs.in_domain.Reads as in-domain-reads
 use Rattle.strand.proofs.measure.Reads as measure-reads
 
--- src/lib.rt:31:9
 in-domain-requires : tie.Need-in-domain-requires
 in-domain-requires c κs = search needs
 
--- src/lib.rt:33:9
 returns : tie.Need-returns
 unfolding builtTag
 returns c =
@@ -34,11 +32,9 @@ returns c =
     let off : evidenceInDomain ev (a .consensus-bases .now) ≡ false = sym (c .before .in-domain .ensures) ∙ not-true (c .before .in-domain .result) (c .if1 .taken) in
     rw off
 
--- src/lib.rt:35:9
 agree-requires : tie.Need-agree-requires
 agree-requires c κs = search needs
 
--- src/lib.rt:37:9
 returns-2 : tie.Need-returns-2
 unfolding builtTag
 returns-2 c =
@@ -48,7 +44,6 @@ returns-2 c =
     let off : evidenceAgrees ev (a .consensus-bases .now) ≡ false = sym (c .before .agree .ensures) ∙ not-true (c .before .agree .result) (c .if2 .taken) in
     rw (inside, off)
 
--- src/lib.rt:39:9
 measure-requires : tie.Need-measure-requires
 measure-requires c κs =
     let a = c .before .before .before .before .before .before .before .before .args in
@@ -58,7 +53,6 @@ measure-requires c κs =
     (sym (c .before .agree .ensures) ∙ not-false (c .before .agree .result) (c .if2 .left)) in
     (l .short, l .inf, l .unc, l .con)
 
--- src/lib.rt:48:9
 returns-3 : tie.Need-returns-3
 unfolding builtTag
 returns-3 c =
@@ -69,7 +63,6 @@ returns-3 c =
     let no-call = own-none (a .methylation-mode) (a .pattern) ev (a .consensus-bases .now) (omega (arith, c .before .before .measure .ensures .1)) in
     rw (inside, same, no-call)
 
--- src/lib.rt:20:1
 returns-4 : tie.Need-returns-4
 unfolding builtTag
 returns-4 c =

@@ -1,4 +1,4 @@
--- `few_marks`: a repeat has as many elements as it says, and each is 0.
+-- `few_marks` returns 1,024 zeros, so no place is marked.
 -- Assumes nothing.
 use mathlib.Core.Path.{sym}
 use Prim.Native.Nat.{ℕ}

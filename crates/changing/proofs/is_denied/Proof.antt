@@ -1,4 +1,4 @@
--- `is_denied`: where a group may lose calls no place is denied, else the named ones.
+-- `is_denied`: if the group may lose calls, no place is denied; otherwise the marked places are.
 -- Assumes nothing.
 use mathlib.Core.Path.{_∙_, sym}
 use borrow.Author.Needs.{needs}

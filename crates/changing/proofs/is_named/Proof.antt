@@ -1,4 +1,4 @@
--- `is_named`: the mark at the place, where the row reaches so far.
+-- `is_named`: the mark at the place; past the row's end no place is marked.
 -- Assumes nothing.
 use mathlib.Core.Path.{refl}
 use native.Mathlib.Omega.{arith}

@@ -1,4 +1,4 @@
--- `mark_places`: the places that are left, marked in the row as it is, give what all of them give in the row as it was.
+-- `mark_places`. Invariant: storing at the remaining places in the present row gives the same as storing at all places in the row that was lent.
 -- Assumes nothing.
 use mathlib.Core.Path.{_∙_, _≡_, ap, refl, sym}
 use Prim.Native.Nat.{_+_, _-_, _≤_, ℕ}

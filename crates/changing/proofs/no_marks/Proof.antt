@@ -1,4 +1,4 @@
--- `no_marks`: a repeat has as many elements as it says, and each is 0.
+-- `no_marks` returns 16,000 zeros, so no place is marked.
 -- Assumes nothing.
 use mathlib.Core.Path.{sym}
 use Prim.Native.Nat.{ℕ}

@@ -1,4 +1,4 @@
--- `still_held`: a place before the window and one past it are gone; inside, the byte decides.
+-- `still_held`: a place before the window or past it is gone; inside, the byte decides.
 -- Assumes nothing.
 use mathlib.Core.Path.{_∙_, _≡_, sym}
 use Prim.Native.Nat.{_-_}

@@ -1,4 +1,4 @@
--- `all_known` passes a word for as long as its kind is known. The invariant: the words from here on decide.
+-- `all_known` goes on while the kind of each word is known. Invariant: the remaining words decide.
 -- Assumes nothing.
 use mathlib.Core.Path.{_≡_, refl, sym, _∙_}
 use Prim.Native.Nat.{_≤_, _-_}

@@ -1,4 +1,4 @@
--- `bases_taken`: an operation takes bases by its kind, as many as its length says.
+-- `bases_taken`: the kind of an operation says whether it takes bases, and its length says how many.
 -- Assumes nothing.
 use mathlib.Core.Path.{sym, _∙_}
 use borrow.Author.Needs.{needs}

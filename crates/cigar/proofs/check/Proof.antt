@@ -1,4 +1,4 @@
--- `check` refuses in the order of the definition: the kinds, the start, how many operations, how many bases.
+-- `check` refuses in the order of the definition: the kinds, the start, the number of operations, the number of bases.
 -- Assumes nothing.
 use mathlib.Core.Path.{_≡_, sym, _∙_}
 use mathlib.Core.Bool.{true}

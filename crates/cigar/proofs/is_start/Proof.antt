@@ -1,4 +1,4 @@
--- `is_start`: a negative start, and one that is compared with the largest.
+-- `is_start`, by cases: the start is negative, or it is compared with the largest allowed start.
 -- Assumes nothing.
 use mir.Facts.{toZ-ofZ}
 use Rattle.cigar.proofs.Signed.{was-negative, was-natural}

@@ -1,4 +1,4 @@
--- `places_taken`: an operation takes places by its kind, as many as its length says.
+-- `places_taken`: the kind of an operation says whether it takes places, and its length says how many.
 -- Assumes nothing.
 use mathlib.Core.Path.{sym, _∙_}
 use borrow.Author.Needs.{needs}

@@ -1,4 +1,4 @@
--- `reference_span` sums what the operations take. The invariant: the sum so far and what the words from here on take are the whole, so nothing wraps.
+-- `reference_span` sums the places that the operations take. Invariant: the sum so far plus that of the remaining words is the total, so nothing wraps.
 -- Assumes nothing.
 use mathlib.Core.Path.{_≡_}
 use Prim.Native.Nat.{_+_, _-_, _≤_}

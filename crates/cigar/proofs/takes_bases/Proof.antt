@@ -1,4 +1,4 @@
--- `takes_bases`: its kinds are those that the definition lists.
+-- `takes_bases`: the kinds are those that the definition lists.
 -- Assumes nothing.
 use mathlib.Core.Path.{sym}
 use mathlib.Core.List.{List, [], _∷_}

@@ -1,4 +1,4 @@
--- `takes_places`: its kinds are those that the definition lists.
+-- `takes_places`: the kinds are those that the definition lists.
 -- Assumes nothing.
 use mathlib.Core.Path.{sym}
 use mathlib.Core.List.{List, [], _∷_}

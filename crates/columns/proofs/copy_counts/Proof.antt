@@ -1,4 +1,4 @@
--- `copy_counts`: the front of the row is the counts that were passed, the rest as lent.
+-- `copy_counts`. Invariant: the front of the row holds the counts so far, and the rest is unchanged.
 -- Assumes nothing.
 use mathlib.Core.Path.{_≡_, refl}
 use Prim.Native.Nat.{_≤_, _-_}

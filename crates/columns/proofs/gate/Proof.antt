@@ -1,4 +1,4 @@
--- `gate`: the counts that were passed are gated, the others as they were.
+-- `gate`. Invariant: the counts so far are gated, and the others are unchanged.
 -- Assumes nothing.
 use mathlib.Core.Path.{_≡_, refl}
 use mathlib.Core.Bool.{cond}

@@ -1,4 +1,4 @@
--- `gated_count` keeps the count where the mark says yes.
+-- `gated_count` returns the count if the mark says yes, and 0 otherwise.
 -- Assumes nothing.
 use native.Mathlib.Omega.{arith}
 use borrow.Author.Tests.{eq-eqb, ne-eqb}

@@ -1,4 +1,4 @@
--- `put_tag_counts`: the front of the row is the tag's form of the counts that were passed, the rest as lent.
+-- `put_tag_counts`. Invariant: the front of the row holds the counts so far as a tag holds them, and the rest is unchanged.
 -- Assumes nothing.
 use mathlib.Core.Path.{_≡_, refl}
 use mathlib.Core.List.{map}

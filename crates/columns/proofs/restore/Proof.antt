@@ -1,4 +1,4 @@
--- `restore`: the bases that were passed are restored, the others as they were.
+-- `restore`. Invariant: the bases so far are restored, and the others are unchanged.
 -- Assumes nothing.
 use mathlib.Core.Path.{_≡_, refl}
 use mathlib.Core.Bool.{cond, _&&_}

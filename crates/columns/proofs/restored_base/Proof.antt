@@ -1,4 +1,5 @@
--- `restored_base` gives the unconverted base for the converted one in any case, where the position is informative, and else the base.
+-- `restored_base` returns the unconverted base if the position is informative and the base is the converted one in upper or lower case. Otherwise it returns the
+-- base.
 -- Assumes nothing.
 use mathlib.Core.Path.{sym}
 use native.Mathlib.Omega.{arith}

@@ -1,4 +1,4 @@
--- `tag_count` gives 32,767 for a count above it, and any other as it is.
+-- `tag_count` returns 32,767 for a larger count, and any other count unchanged.
 -- Assumes nothing.
 use mathlib.Core.Path.{_≡_, ap, _∙_}
 use Prim.Native.Nat.{min}

@@ -1,4 +1,4 @@
--- `count_base`: where the base does not count the columns stay as they are, which is what storing the counts as they are comes to.
+-- `count_base`: if the base does not count, the columns are unchanged, and storing the same counts again would change nothing either.
 -- Assumes nothing.
 use mathlib.Core.Path.{_≡_, refl, sym, _∙_}
 use mathlib.Core.Bool.{true, false}

@@ -1,4 +1,4 @@
--- `count_read`: the positions that were passed have the read counted, the others are as they were.
+-- `count_read`. Invariant: the read is counted at the positions so far, and the others are unchanged.
 -- Assumes nothing.
 use mathlib.Core.Path.{_≡_, refl, _∙_}
 use mathlib.Core.Bool.{Bool}

@@ -1,4 +1,4 @@
--- `count_reads`: the counts that stand there and the reads from here on come to what all reads come to.
+-- `count_reads`. Invariant: counting the remaining reads over the present counts gives the counts of all reads.
 -- Assumes nothing.
 use mathlib.Core.Path.{_≡_, refl, sym, _∙_}
 use Prim.Native.Nat.{_+_, _-_, _≤_}

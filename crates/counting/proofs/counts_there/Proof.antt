@@ -1,4 +1,4 @@
--- `counts_there`: where all positions count, where the position is not informative, and where the base's mark decides.
+-- `counts_there`, by cases: all positions count, the position is not informative, or the aligned byte decides.
 -- Assumes nothing.
 use mathlib.Core.Path.{refl}
 use native.Mathlib.Omega.{arith}

@@ -1,4 +1,4 @@
--- `fill`: marked, zeroed and counted, the columns are the definition's.
+-- `fill` marks, zeroes and counts, and the columns are then those of the definition.
 -- Assumes nothing.
 use native.Mathlib.Omega.{arith}
 use borrow.Author.Needs.{needs}

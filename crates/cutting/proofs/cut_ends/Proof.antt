@@ -1,4 +1,4 @@
--- `cut_ends`: 21 and 11 by the sum, and then the cut.
+-- `cut_ends` answers 21 if the sum is 0 and 11 if it is more than SEQ has, and otherwise cuts.
 -- Assumes nothing.
 use mathlib.Core.Path.{_∙_, _≡_, ap}
 use Prim.Native.Nat.{_+_, _-_, _≤_}
@@ -11,7 +11,7 @@ use Rattle.stepping.specs.Steps.{leavesMemory, memory}
 use Rattle.cutting.proofs.cut_ends.Statement.{statement}
 use Rattle.cutting.proofs.cut_ends.Tie as tie
 
--- the rows as they were lent
+-- the rows before the call
 abbrev before : tie.Start → Memory
 before s = memory (s .args .seq .now) (s .args .mm .now) (s .args .ml .now) (s .args .lengths)
 

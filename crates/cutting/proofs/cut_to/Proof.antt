@@ -1,4 +1,4 @@
--- `cut_to`: the tag is edited where it stands, by the window that stays; and only then the window is moved to SEQ's front.
+-- `cut_to` edits the tag in place, with the window that stays. Only then it moves the window to SEQ's front.
 -- Assumes nothing.
 use mathlib.Core.Path.{_∙_, _≡_, ap, subst, sym}
 use Prim.Native.Nat.{_+_, _-_, ℕ}
@@ -24,7 +24,7 @@ use Rattle.stepping.specs.Steps.{came, memory}
 use Rattle.cutting.proofs.cut_to.Statement.{statement}
 use Rattle.cutting.proofs.cut_to.Tie as tie
 
--- the rows as they were lent
+-- the rows before the call
 abbrev before : tie.Start → Memory
 before s = memory (s .args .seq .now) (s .args .mm .now) (s .args .ml .now) (s .args .lengths)
 
@@ -32,7 +32,7 @@ before s = memory (s .args .seq .now) (s .args .mm .now) (s .args .ml .now) (s .
 abbrev stays : tie.Start → List ℕ
 stays s = window (s .args .front) (s .args .n) (heldIn (before s) .seq)
 
--- what the edit comes to
+-- the outcome of the edit
 abbrev outcome : tie.Start → Outcome Tag
 outcome s =
     let h = heldIn (before s) in

@@ -1,5 +1,5 @@
--- `edit_entries`: what is read and put from the first entry on is what is read and put from here on, after what was put; and what was put stays behind
--- what was read.
+-- `edit_entries`. Invariant: reading and writing the remaining entries, after what is written, gives the result for all entries; and writing never
+-- overtakes reading.
 -- Assumes nothing.
 use mathlib.Core.Path.{_∙_, _≡_, ap, refl, subst, sym}
 use Prim.Native.Nat.{_+_, _-_, _<_, _≤_, ℕ}
@@ -33,7 +33,7 @@ use Rattle.strides.specs.declared.Window.{Window}
 use Rattle.drafting.proofs.edit_entries.Statement.{statement}
 use Rattle.drafting.proofs.edit_entries.Tie as tie
 
--- what the reading from a separator, a place and a value on comes to, changed and put
+-- the outcome of reading from a separator, a place and a value on, changed and written
 abbrev put-from : List ℕ → List ℕ → List ℕ → List ℕ → List ℕ → Window → Kind → Draft → ℕ → ℕ → ℕ → ℕ → Outcome (Draft × List ℕ)
 put-from seq after marks text ml window kind w gap used at from =
     onDone (spotsPut (heldIn (window .lo) after (kind .base)) (isMarked marks) w gap)

@@ -1,4 +1,4 @@
--- `edit_group`: the header, then the entries, whose contract says the rest, and the ';'.
+-- `edit_group` writes the header, then the entries, for which the contract of `edit_entries` is used, and the ';'.
 -- Assumes nothing.
 use mathlib.Core.Path.{_≡_, ap, subst, sym}
 use Prim.Native.Nat.{_+_, ℕ}

@@ -1,4 +1,4 @@
--- `edit_groups`: what is read and put from the first group on is what is read and put from here on, after what was put.
+-- `edit_groups`. Invariant: reading and writing the remaining groups, after what is written, gives the result for all groups.
 -- Assumes nothing.
 use mathlib.Core.Path.{_∙_, _≡_, ap, refl, subst, sym}
 use Prim.Native.Nat.{_+_, _-_, _<_, _≤_, ℕ}
@@ -23,7 +23,7 @@ use Rattle.places.proofs.TextLaws.{ahead, groups-done, groups-over}
 use Rattle.drafting.proofs.edit_groups.Statement.{statement}
 use Rattle.drafting.proofs.edit_groups.Tie as tie
 
--- what the reading from a cursor on comes to, changed and put
+-- the outcome of reading from a cursor on, changed and written
 abbrev put-from : List ℕ → List ℕ → List ℕ → List ℕ → List ℕ → ℕ → Bool → List ℕ → List ℕ → Cursor → Outcome Draft
 put-from seq after marks text ml lo ml? out ml-out c =
     onDone (tagPut (draft out (c .end) ml-out (c .kept))) (editedGroups (windowEdit lo after marks)

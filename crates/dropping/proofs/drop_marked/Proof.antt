@@ -1,4 +1,4 @@
--- `drop_marked`: the tag is edited where it stands, by the marks alone; SEQ stays.
+-- `drop_marked` edits the tag in place, by the marks alone; SEQ is unchanged.
 -- Assumes nothing.
 use mathlib.Core.Path.{_∙_, _≡_, ap, subst, sym}
 use Prim.Native.Nat.{_-_, ℕ}
@@ -19,11 +19,11 @@ use Rattle.stepping.specs.Steps.{came, memory}
 use Rattle.dropping.proofs.drop_marked.Statement.{statement}
 use Rattle.dropping.proofs.drop_marked.Tie as tie
 
--- the rows as they were lent
+-- the rows before the call
 abbrev before : tie.Start → Memory
 before s = memory (s .args .seq .now) (s .args .mm .now) (s .args .ml .now) (s .args .lengths)
 
--- what the edit comes to
+-- the outcome of the edit
 abbrev outcome : tie.Start → Outcome Tag
 outcome s =
     let h = heldIn (before s) in

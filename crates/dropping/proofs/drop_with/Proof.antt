@@ -1,4 +1,4 @@
--- `drop_with`: marks for the places in the lent row, and then the step.
+-- `drop_with` marks the places in the lent row, and then makes the step.
 -- Assumes nothing.
 use mathlib.Core.Path.{_∙_, _≡_, ap}
 use Prim.Native.Nat.{_<_, _≤_, ℕ}

@@ -1,4 +1,4 @@
--- `duplex_methylation_tags`: a refusal is passed on, 12 where a row has no room, else each part of the answer is written where it belongs.
+-- `duplex_methylation_tags` passes on a refusal, answers 12 if a row has no room, and otherwise writes each part of the answer to its row.
 -- Assumes nothing.
 use mathlib.Core.Path.{_∙_, _≡_, ap, refl, sym}
 use Prim.Native.Nat.{_-_, _≤_, ℕ}
@@ -38,7 +38,6 @@ use Rattle.joining.proofs.put_counts.Reads as put-counts-reads
 use Rattle.joining.proofs.put_tags.Reads as put-tags-reads
 use Rattle.joining.proofs.restore.Reads as restore-reads
 
--- src/lib.rt:279:9
 -- ---- what the first pass found out
 
 abbrev first-strand : tie.After-known-told → Strand
@@ -83,7 +82,7 @@ parts-are c =
     ∙ ap (partLengths (two k) (length (a .bases .now))) (sym (pass k .is))
     ∙ sym (lengths-are (two k) (a .methylation-mode) (a .bases .now) (first-strand k) (second-strand k) (lengths k))
 
--- the rows as they were lent
+-- the rows before the call
 abbrev lent-of : tie.After-known-told → Lengths
 lent-of c =
     let a = c .before .before .before .before .before .before .before .before .before .before .before .before .before .before .before .before .args in
@@ -147,19 +146,15 @@ tags c =
 measure-requires : tie.Need-measure-requires
 measure-requires c κs = search needs
 
--- src/lib.rt:292:24
 enum-known-asked : tie.Need-enum-known-asked
 enum-known-asked c = search needs
 
--- src/lib.rt:293:32
 enum-told : tie.Need-enum-told
 enum-told c = search needs
 
--- src/lib.rt:293:32
 refusal-requires : tie.Need-refusal-requires
 refusal-requires c κs = search needs
 
--- src/lib.rt:293:9
 returns : tie.Need-returns
 unfolding leaves duplexTags
 returns c =
@@ -173,18 +168,15 @@ returns c =
     refused-anyway (a .strands) (a .bases .now) first second sizes _ (told .0 .0) (sym (c .before .before .before .measure .ensures) ∙ ap measuredSays (told .1)) in
     rw off (ap refused (c .refusal .ensures ∙ ap measuredRefusal (told .1)), refl, refl, refl, refl, refl, refl, refl, refl, refl, refl, refl)
 
--- src/lib.rt:296:9
 part-lengths-requires : tie.Need-part-lengths-requires
 part-lengths-requires c κs =
     let a = c .before .before .before .before .before .before .before .before .before .before .before .before .before .before .before .before .args in
     let f = tags-fit (two c) (a .methylation-mode) (a .bases .now) (first-strand c) (second-strand c) (lengths c) in
     rw (← pass c .is) (omega (arith, f .0), omega (arith, f .1))
 
--- src/lib.rt:297:9
 within-requires : tie.Need-within-requires
 within-requires c κs = search needs
 
--- src/lib.rt:314:9
 returns-2 : tie.Need-returns-2
 unfolding leaves
 returns-2 c =
@@ -196,7 +188,6 @@ returns-2 c =
     ∙ ap (λ (t : Bool). need t 12 (done (answer-of k))) no in
     rw twelve (refl, refl, refl, refl, refl, refl, refl, refl, refl, refl, refl, refl)
 
--- src/lib.rt:316:5
 restore-requires : tie.Need-restore-requires
 restore-requires c κs =
     let k = c .before .before .before .before in
@@ -204,7 +195,6 @@ restore-requires c κs =
     let r = room (c .before) in
     (l .first .inf, (λ (t : two k ≡ true). l .second t .inf), r .seq)
 
--- src/lib.rt:325:5
 put-counts-requires : tie.Need-put-counts-requires
 put-counts-requires c κs =
     let k = c .before .before .before .before .before .before .before .before .before .before in
@@ -216,7 +206,6 @@ put-counts-requires c κs =
       (λ (t : two k ≡ true). second-room (two k) _ _ _ t (l .first .unc) (r .unc₂)),
     )
 
--- src/lib.rt:333:5
 put-counts-requires-2 : tie.Need-put-counts-requires-2
 put-counts-requires-2 c κs =
     let k = c .before .before .before .before .before .before .before .before .before .before .before .before .before .before .before .before .before in
@@ -228,21 +217,17 @@ put-counts-requires-2 c κs =
       (λ (t : two k ≡ true). second-room (two k) _ _ _ t (l .first .con) (r .con₂)),
     )
 
--- src/lib.rt:343:9
 sub-put-tags : tie.Need-sub-put-tags
 sub-put-tags c = search needs
 
--- src/lib.rt:343:9
 part-put-tags-start : tie.Need-part-put-tags-start
 part-put-tags-start c = search needs
 
--- src/lib.rt:343:9
 part-put-tags-end : tie.Need-part-put-tags-end
 part-put-tags-end c =
     let r = room (c .before .before .before .before .before .before .before .before .before .before .before .before .before .before .before .before .before .before .before) in
     omega (arith, r .seq, c .before .before .before .before .before .before .before .before .before .before .before .before .before .before .before .before .before .restore .kept .1 .1 .1 .1 .1 .1 .0)
 
--- src/lib.rt:342:5
 put-tags-requires : tie.Need-put-tags-requires
 put-tags-requires c κs =
     let k = c .before .before .before .before .before .before .before .before .before .before .before .before .before .before .before .before .before .before .before .before .before .before .before .before .before .before in
@@ -264,7 +249,6 @@ put-tags-requires c κs =
       ),
     )
 
--- src/lib.rt:360:5
 join-requires : tie.Need-join-requires
 join-requires c κs =
     let k = c .before .before .before .before .before .before .before .before .before .before .before .before .before .before .before .before .before .before .before .before .before .before .before .before .before .before .before .before .before .before .before .before .before .before .before .before in
@@ -277,53 +261,41 @@ join-requires c κs =
       r .mm,
     )
 
--- src/lib.rt:235:1
 same-length : tie.Need-same-length
 same-length c =
     c .before .before .before .before .before .before .before .before .before .before .before .before .before .before .before .before .before .before .before .before .before .before .before .before .before .before .before .before .before .before .before .before .before .before .restore .kept .1 .1 .1 .1 .1 .1 .0
 
--- src/lib.rt:235:1
 same-length-2 : tie.Need-same-length-2
 same-length-2 c = search needs
 
--- src/lib.rt:235:1
 same-length-3 : tie.Need-same-length-3
 same-length-3 c = search needs
 
--- src/lib.rt:235:1
 same-length-4 : tie.Need-same-length-4
 same-length-4 c =
     c .before .before .before .before .before .before .before .before .before .before .before .before .before .before .before .before .before .before .before .before .before .before .before .before .before .before .before .before .put-counts .kept .1 .1 .1 .0
 
--- src/lib.rt:235:1
 same-length-5 : tie.Need-same-length-5
 same-length-5 c = search needs
 
--- src/lib.rt:235:1
 same-length-6 : tie.Need-same-length-6
 same-length-6 c = search needs
 
--- src/lib.rt:235:1
 same-length-7 : tie.Need-same-length-7
 same-length-7 c = search needs
 
--- src/lib.rt:235:1
 same-length-8 : tie.Need-same-length-8
 same-length-8 c = search needs
 
--- src/lib.rt:235:1
 same-length-9 : tie.Need-same-length-9
 same-length-9 c = search needs
 
--- src/lib.rt:235:1
 same-length-10 : tie.Need-same-length-10
 same-length-10 c = search needs
 
--- src/lib.rt:235:1
 same-length-11 : tie.Need-same-length-11
 same-length-11 c = search needs
 
--- src/lib.rt:235:1
 returns-3 : tie.Need-returns-3
 unfolding leaves
 returns-3 c =

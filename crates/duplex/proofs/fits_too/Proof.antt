@@ -1,4 +1,4 @@
--- `fits_too`: by whether every row before had room.
+-- `fits_too`, by cases: whether every row before had room.
 -- Assumes nothing.
 use borrow.Author.Needs.{needs}
 use Rattle.samtags.specs.Meaning.{taken}
@@ -7,11 +7,9 @@ use Rattle.duplex.proofs.fits_too.Tie as tie
 use Rattle.duplex.proofs.fits_too.Reads as reads
 use Rattle.duplex.proofs.fits_too.Lts as lts
 
--- src/lib.rt:209:9
 returns : tie.Need-returns
 returns c = rw (c .if1 .taken)
 
--- src/lib.rt:205:1
 returns-2 : tie.Need-returns-2
 returns-2 c = search needs
 

@@ -7,11 +7,9 @@ use Rattle.duplex.proofs.is_count.Tie as tie
 use Rattle.duplex.proofs.is_count.Reads as reads
 use Rattle.duplex.proofs.is_count.Lts as lts
 
--- src/lib.rt:63:1
 returns : tie.Need-returns
 returns c = rw (eq-eqb (c .before .args .strands) 1 (omega arith))
 
--- src/lib.rt:63:1
 returns-2 : tie.Need-returns-2
 returns-2 c = rw (ne-eqb (c .before .args .strands) 1 (omega arith))
 

@@ -1,4 +1,4 @@
--- `measure`: the checks in order, then both strands' own tags.
+-- `measure` makes the checks in order, and then measures both strands' own tags.
 -- Assumes nothing.
 use mathlib.Core.Path.{_∙_, _≡_, ap, sym}
 use mathlib.Core.Bool.{_||_, cond, false, true}
@@ -24,11 +24,9 @@ use Rattle.joining.proofs.measure.Reads as measure-reads
 use Rattle.strand.proofs.agree.Reads as agree-reads
 use Rattle.strand.proofs.in_domain.Reads as in-domain-reads
 
--- src/lib.rt:120:9
 is-count-requires : tie.Need-is-count-requires
 is-count-requires c κs = search needs
 
--- src/lib.rt:122:9
 returns : tie.Need-returns
 returns c =
     let a = c .before .before .before .before .before .before .before .before .before .args in
@@ -40,11 +38,9 @@ returns c =
     let k : (eqb (a .strands) 1 || eqb (a .strands) 2) ≡ false = sym (c .before .is-count .ensures) ∙ not-true (c .before .is-count .result) (c .if1 .taken) in
     sym (not-counted (a .strands) bases first second sizes k)
 
--- src/lib.rt:125:9
 in-domain-requires : tie.Need-in-domain-requires
 in-domain-requires c κs = search needs
 
--- src/lib.rt:132:9
 returns-2 : tie.Need-returns-2
 returns-2 c =
     let a = c .before .before .before .before .before .before .before .before .before .before .before .args in
@@ -57,11 +53,9 @@ returns-2 c =
     let p : evidenceInDomain (first .evidence) bases ≡ false = sym (c .before .in-domain .ensures) ∙ not-true (c .before .in-domain .result) (c .if2 .taken) in
     sym (first-long (a .strands) bases first second sizes k p)
 
--- src/lib.rt:134:9
 second-in-domain-requires : tie.Need-second-in-domain-requires
 second-in-domain-requires c κs = search needs
 
--- src/lib.rt:142:9
 returns-3 : tie.Need-returns-3
 returns-3 c =
     let a = c .before .before .before .before .before .before .before .before .before .before .before .before .before .args in
@@ -75,11 +69,9 @@ returns-3 c =
     let q : cond two? (evidenceInDomain (second .evidence) bases) true ≡ false = sym (c .before .second-in-domain .ensures) ∙ not-true (c .before .second-in-domain .result) (c .if3 .taken) in
     sym (second-long (a .strands) bases first second sizes k p q)
 
--- src/lib.rt:144:9
 agree-requires : tie.Need-agree-requires
 agree-requires c κs = search needs
 
--- src/lib.rt:146:9
 returns-4 : tie.Need-returns-4
 returns-4 c =
     let a = c .before .before .before .before .before .before .before .before .before .before .before .before .before .before .before .args in
@@ -94,11 +86,9 @@ returns-4 c =
     let r : evidenceAgrees (first .evidence) bases ≡ false = sym (c .before .agree .ensures) ∙ not-true (c .before .agree .result) (c .if4 .taken) in
     sym (first-differs (a .strands) bases first second sizes k p q r)
 
--- src/lib.rt:148:9
 second-agrees-requires : tie.Need-second-agrees-requires
 second-agrees-requires c κs = search needs
 
--- src/lib.rt:156:9
 returns-5 : tie.Need-returns-5
 returns-5 c =
     let a = c .before .before .before .before .before .before .before .before .before .before .before .before .before .before .before .before .before .args in
@@ -114,7 +104,6 @@ returns-5 c =
     let s : cond two? (evidenceAgrees (second .evidence) bases) true ≡ false = sym (c .before .second-agrees .ensures) ∙ not-true (c .before .second-agrees .result) (c .if5 .taken) in
     sym (second-differs (a .strands) bases first second sizes k p q r s)
 
--- src/lib.rt:158:20
 measure-requires : tie.Need-measure-requires
 measure-requires c κs =
     let a = c .before .before .before .before .before .before .before .before .before .before .before .before .before .before .before .before .before .args in
@@ -133,7 +122,6 @@ measure-requires c κs =
     λ (t : two? ≡ true). lengths-known (second .evidence) bases (rw t at q) (rw t at s) in
     ((l .short, l .inf, l .unc, l .con), (λ (t : two? ≡ true). (other t .inf, other t .unc, other t .con)))
 
--- src/lib.rt:102:1
 returns-6 : tie.Need-returns-6
 returns-6 c =
     let a = c .before .before .before .before .before .before .before .before .before .before .before .before .before .before .before .before .before .before .args in

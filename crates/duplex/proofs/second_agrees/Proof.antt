@@ -1,4 +1,4 @@
--- Asked only where there is a second strand.
+-- `second_agrees` checks only if there is a second strand.
 -- Assumes nothing.
 use borrow.Author.Needs.{needs}
 use Rattle.samtags.specs.Meaning.{taken}
@@ -8,15 +8,12 @@ use Rattle.duplex.proofs.second_agrees.Reads as reads
 use Rattle.duplex.proofs.second_agrees.Lts as lts
 use Rattle.strand.proofs.agree.Reads as agree-reads
 
--- src/lib.rt:96:9
 agree-requires : tie.Need-agree-requires
 agree-requires c κs = search needs
 
--- src/lib.rt:96:9
 returns : tie.Need-returns
 returns c = rw (c .before .if1 .taken) (c .agree .ensures)
 
--- src/lib.rt:86:1
 returns-2 : tie.Need-returns-2
 returns-2 c = search needs
 

@@ -1,4 +1,4 @@
--- Asked only where there is a second strand.
+-- `second_in_domain` checks only if there is a second strand.
 -- Assumes nothing.
 use borrow.Author.Needs.{needs}
 use Rattle.samtags.specs.Meaning.{taken}
@@ -8,15 +8,12 @@ use Rattle.duplex.proofs.second_in_domain.Reads as reads
 use Rattle.duplex.proofs.second_in_domain.Lts as lts
 use Rattle.strand.proofs.in_domain.Reads as in-domain-reads
 
--- src/lib.rt:80:9
 in-domain-requires : tie.Need-in-domain-requires
 in-domain-requires c κs = search needs
 
--- src/lib.rt:80:9
 returns : tie.Need-returns
 returns c = rw (c .before .if1 .taken) (c .in-domain .ensures)
 
--- src/lib.rt:70:1
 returns-2 : tie.Need-returns-2
 returns-2 c = search needs
 

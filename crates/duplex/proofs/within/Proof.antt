@@ -11,51 +11,39 @@ use Rattle.duplex.proofs.within.Reads as reads
 use Rattle.duplex.proofs.within.Lts as lts
 use Rattle.duplex.proofs.fits_too.Reads as fits-too-reads
 
--- src/lib.rt:218:9
 fits-too-requires : tie.Need-fits-too-requires
 fits-too-requires c κs = search needs
 
--- src/lib.rt:219:9
 fits-too-requires-2 : tie.Need-fits-too-requires-2
 fits-too-requires-2 c κs = search needs
 
--- src/lib.rt:220:9
 fits-too-requires-3 : tie.Need-fits-too-requires-3
 fits-too-requires-3 c κs = search needs
 
--- src/lib.rt:221:9
 fits-too-requires-4 : tie.Need-fits-too-requires-4
 fits-too-requires-4 c κs = search needs
 
--- src/lib.rt:222:9
 fits-too-requires-5 : tie.Need-fits-too-requires-5
 fits-too-requires-5 c κs = search needs
 
--- src/lib.rt:223:9
 fits-too-requires-6 : tie.Need-fits-too-requires-6
 fits-too-requires-6 c κs = search needs
 
--- src/lib.rt:224:9
 fits-too-requires-7 : tie.Need-fits-too-requires-7
 fits-too-requires-7 c κs = search needs
 
--- src/lib.rt:225:9
 fits-too-requires-8 : tie.Need-fits-too-requires-8
 fits-too-requires-8 c κs = search needs
 
--- src/lib.rt:226:9
 fits-too-requires-9 : tie.Need-fits-too-requires-9
 fits-too-requires-9 c κs = search needs
 
--- src/lib.rt:227:9
 fits-too-requires-10 : tie.Need-fits-too-requires-10
 fits-too-requires-10 c κs = search needs
 
--- src/lib.rt:228:5
 fits-too-requires-11 : tie.Need-fits-too-requires-11
 fits-too-requires-11 c κs = search needs
 
--- src/lib.rt:215:1
 returns : tie.Need-returns
 returns c =
     let p = c .before .before .before .before .before .before .before .before .before .before .before .args .parts in

@@ -1,4 +1,4 @@
--- `edit_checked`: the tag is known to be edited, so the walk refuses nothing, and what it puts fits the rows.
+-- `edit_checked`: the edit is known to succeed, so the walk refuses nothing, and what it writes fits the rows.
 -- Assumes nothing.
 use mathlib.Core.Path.{_≡_, subst}
 use borrow.Author.Needs.{needs}

@@ -1,4 +1,5 @@
--- `edit_measured`: the first walk refuses or measures; what does not fit is 12; and the second walk, over the lent rows, puts the same groups.
+-- `edit_measured`: the first walk refuses or measures, and a tag that does not fit is refused with 12. The second walk, over the lent rows, writes the
+-- same groups.
 -- Assumes nothing.
 use mathlib.Core.Path.{_∙_, _≡_, ap, subst}
 use Prim.Native.Nat.{_-_, _≤_, ℕ}
@@ -26,7 +27,7 @@ use Rattle.samtags.specs.Writing.{Tag}
 use Rattle.editing.proofs.edit_measured.Statement.{statement}
 use Rattle.editing.proofs.edit_measured.Tie as tie
 
--- what the edit comes to, the room apart
+-- the outcome of the edit, without the test of the room
 abbrev outcome : tie.Start → Outcome Tag
 outcome s =
     let a = s .args in

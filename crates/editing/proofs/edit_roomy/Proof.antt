@@ -1,4 +1,4 @@
--- `edit_roomy`: what the first walk refuses is refused, what it accepts is written, and where it is unsure the tag is measured.
+-- `edit_roomy` refuses what the first walk refuses, and writes what it accepts. If the first walk is unsure, the tag is measured.
 -- Assumes nothing.
 use mathlib.Core.Path.{_∙_, _≡_, ap, subst}
 use Prim.Native.Nat.{_-_, _≤_}
@@ -24,7 +24,7 @@ use Rattle.editing.proofs.edit_roomy.Statement.{statement}
 use Rattle.editing.specs.Rewrote.{leavesTag}
 use Rattle.editing.proofs.edit_roomy.Tie as tie
 
--- what the edit comes to, the room apart
+-- the outcome of the edit, without the test of the room
 abbrev outcome : tie.Start → Outcome Tag
 outcome s =
     let a = s .args in

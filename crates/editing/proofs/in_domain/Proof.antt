@@ -1,4 +1,4 @@
--- `in_domain`: each length by itself.
+-- `in_domain` checks each length by itself.
 -- Assumes nothing.
 use native.Mathlib.Omega.{arith}
 use lib.ListN.{length}

@@ -1,4 +1,4 @@
--- `measure`: 3 and 4, and then the groups over rows that reach nowhere.
+-- `measure` checks for 3 and 4, and then walks over the groups with empty rows.
 -- Assumes nothing.
 use mathlib.Core.Path.{_∙_, _≡_, ap, subst, sym}
 use Prim.Native.Nat.{ℕ}

@@ -1,4 +1,4 @@
--- `one_more`: one more where the answer is yes.
+-- `one_more` adds one if the answer is yes.
 -- Assumes nothing.
 use native.Mathlib.Omega.{arith}
 use borrow.Author.Needs.{needs}

@@ -1,5 +1,5 @@
--- `pass_tracked`: from where it begins, as many of the group's bases are left to pass as `skip` is ahead of the ordinal, and those that were passed are
--- counted.
+-- `pass_tracked`. Invariant: the number of the group's bases still to pass is `skip` minus the ordinal, and of those that were passed the ones still held
+-- are counted.
 -- Assumes nothing.
 use mathlib.Core.Path.{_∙_, _≡_, ap, refl, sym}
 use Prim.Native.Nat.{_+_, _-_, _≤_, ℕ}

@@ -1,4 +1,4 @@
--- `put_all`: the bytes that the room reaches are stored; those past it are stored nowhere.
+-- `put_all` stores the bytes that have room, and does not store the others.
 -- Assumes nothing.
 use mathlib.Core.Path.{_∙_, _≡_, ap, refl, sym}
 use Prim.Native.Nat.{_+_, _-_, _≤_, ℕ}

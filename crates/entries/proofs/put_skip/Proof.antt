@@ -1,4 +1,4 @@
--- `put_skip`: the comma, and behind it the digits.
+-- `put_skip` writes the comma, and then the digits.
 -- Assumes nothing.
 use mathlib.Core.Path.{_∙_, _≡_, ap}
 use Prim.Native.Nat.{_+_, suc, ℕ}

@@ -1,4 +1,4 @@
--- `read_entry`: 6 of the skip reader, 7 of the walk over SEQ, then 8 and 10, else the place.
+-- `read_entry` passes on 6 of the skip reader and 7 of the walk over SEQ, then checks for 8 and 10, and otherwise answers with the place.
 -- Assumes nothing.
 use mathlib.Core.Path.{_∙_, ap, sym}
 use Prim.Native.Nat.{_≤_}

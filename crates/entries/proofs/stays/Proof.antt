@@ -1,4 +1,4 @@
--- `stays`: the flag, or what the byte says.
+-- `stays`: yes if nothing changed, and otherwise the byte decides.
 -- Assumes nothing.
 use mathlib.Core.Path.{_∙_, ap, sym}
 use mathlib.Core.Bool.{Bool, _||_}

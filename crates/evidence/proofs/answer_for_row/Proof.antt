@@ -1,4 +1,4 @@
--- `answer_for_row`: 1 above 16,000, and else how many records there are.
+-- `answer_for_row`: 1 above 16,000 records, and otherwise the number of records.
 -- Assumes nothing.
 use native.Mathlib.Omega.{arith}
 use borrow.Author.Tests.{le-leb, lt-leb}

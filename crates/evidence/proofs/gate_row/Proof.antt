@@ -1,5 +1,5 @@
--- `evidence::gate_row` meets its contract: a walk of its MIR, by hand. Three calls, the middle one in the loop, each known by its contract alone. The
--- borrow is opened once, before the loop, and closed once, after it.
+-- `evidence::gate_row` meets its contract. The proof walks over its MIR by hand. There are three calls, the second one in the loop; of each only the
+-- contract is used. The borrow is opened once, before the loop, and closed once, after it.
 -- Assumes nothing.
 use mathlib.Core.Path.{_≡_, refl, sym, ap, subst, _∙_}
 use mathlib.Core.Bool.{Bool, true, false}

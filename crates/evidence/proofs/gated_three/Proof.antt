@@ -1,5 +1,5 @@
--- `gated_three`: a walk of its MIR, by hand. The local array is lent to `gate_row` for a lifetime that is made for the call, and comes back at the
--- list that the contract of `gate_row` says.
+-- `gated_three`: the proof walks over its MIR by hand. The local array is lent to `gate_row` for a lifetime that is made for the call, and comes back with
+-- the list that the contract of `gate_row` gives.
 -- Assumes nothing.
 use mathlib.Core.Path.{_≡_, refl}
 use mathlib.Core.List.{[], _∷_, List}

@@ -1,4 +1,4 @@
--- `one_more`: a full count, one more.
+-- `one_more`, by cases: a full count stays full, and any other count grows by one.
 -- Assumes nothing.
 use native.Mathlib.Omega.{arith}
 use borrow.Author.Needs.{needs}

@@ -1,4 +1,4 @@
--- `records_to_gate`: none of a row above 16,000, all of any other.
+-- `records_to_gate`: none if the row has more than 16,000 records, and otherwise all.
 -- Assumes nothing.
 use native.Mathlib.Omega.{arith}
 use borrow.Author.Tests.{le-leb, lt-leb}

@@ -1,5 +1,5 @@
--- `gated` is safe and ends: a walk of its MIR, by hand. The front of the local array is lent to `gate_row` for a lifetime that is made for the
--- call, and comes back at whatever list the row holds then. The callee's answer and that array make the result.
+-- `gated` is safe and returns. The proof walks over its MIR by hand. The front of the local array is lent to `gate_row` for a lifetime that is made for
+-- the call, and comes back with whatever list the row then holds. The callee's answer and that array make the result.
 -- Assumes nothing.
 use mathlib.Core.Path.{_≡_, refl}
 use mathlib.Core.List.{[], _∷_, _++_, List}

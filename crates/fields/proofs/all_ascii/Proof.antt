@@ -1,4 +1,4 @@
--- `all_ascii`: all that was looked at so far.
+-- `all_ascii`. Invariant: the flag says whether all bytes so far are ASCII.
 -- Assumes nothing.
 use mathlib.Core.Path.{_∙_, _≡_, ap, refl, sym}
 use Prim.Native.Nat.{_+_, _-_, _≤_}

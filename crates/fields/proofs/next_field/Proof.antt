@@ -1,4 +1,4 @@
--- `next_field`: the part up to where a comma or semicolon stands, or up to the text's end.
+-- `next_field`: the part up to the next comma or semicolon, or up to the text's end.
 -- Assumes nothing.
 use mathlib.Core.Path.{_≡_}
 use Prim.Native.Nat.{_+_, _-_, _≤_}

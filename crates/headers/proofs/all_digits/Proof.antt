@@ -1,4 +1,4 @@
--- `all_digits`: from the left, up to a byte that is no digit.
+-- `all_digits` goes from the left, up to the first byte that is not a digit.
 -- Assumes nothing.
 use mathlib.Core.Path.{_∙_, _≡_, refl, sym}
 use Prim.Native.Nat.{_-_, _≤_}

@@ -1,4 +1,4 @@
--- `codes`: marks are taken off the end one by one, up to the first byte that is none.
+-- `codes` takes marks off the end one by one, up to the first byte that is not a mark.
 -- Assumes nothing.
 use mathlib.Core.Path.{_∙_, _≡_, ap, sym}
 use Prim.Native.Nat.{_-_, _≤_}

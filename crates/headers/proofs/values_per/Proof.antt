@@ -1,4 +1,4 @@
--- `values_per`: one for digits or none, else one for each byte of the codes.
+-- `values_per`: one if the codes are digits or empty, and otherwise one for each byte of the codes.
 -- Assumes nothing.
 use borrow.Author.Needs.{needs}
 use Rattle.samtags.specs.Text.{valuesPer}

@@ -1,4 +1,4 @@
--- `edit_checked`: the tag is known to be edited, so the walk refuses nothing; and what it puts is not longer than what stood there.
+-- `edit_checked`: the edit is known to succeed, so the walk refuses nothing, and what it writes is not longer than the tag was.
 -- Assumes nothing.
 use mathlib.Core.Path.{_∙_, _≡_, ap, subst}
 use Prim.Native.Nat.{_-_, _≤_, ℕ}

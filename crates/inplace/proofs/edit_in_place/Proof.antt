@@ -1,4 +1,4 @@
--- `edit_in_place`: what the first walk refuses is refused, what it accepts is written, and where it is unsure the tag is measured.
+-- `edit_in_place` refuses what the first walk refuses, and writes what it accepts. If the first walk is unsure, the tag is measured.
 -- Assumes nothing.
 use mathlib.Core.Path.{_≡_, subst}
 use Prim.Native.Nat.{_-_}

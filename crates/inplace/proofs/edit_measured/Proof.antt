@@ -1,4 +1,4 @@
--- `edit_measured`: the first walk refuses or measures; a measured tag is not longer than it was, and the second walk, over its own rows, puts it.
+-- `edit_measured`: the first walk refuses or measures. An edited tag is not longer than the tag was, so the second walk writes it into its own rows.
 -- Assumes nothing.
 use mathlib.Core.Path.{_∙_, _≡_, ap, subst}
 use Prim.Native.Nat.{_-_, _≤_, ℕ}
@@ -28,7 +28,7 @@ use Rattle.samtags.specs.Writing.{Tag, sizesOf}
 use Rattle.inplace.proofs.edit_measured.Statement.{statement}
 use Rattle.inplace.proofs.edit_measured.Tie as tie
 
--- what the edit comes to
+-- the outcome of the edit
 abbrev outcome : tie.Start → Outcome Tag
 outcome s =
     let a = s .args in

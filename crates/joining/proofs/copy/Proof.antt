@@ -1,4 +1,4 @@
--- `copy`: the front of the row is the bytes that were passed, the rest as lent.
+-- `copy`. Invariant: the front of the row holds the bytes so far, and the rest is unchanged.
 -- Assumes nothing.
 use mathlib.Core.Path.{_≡_, refl}
 use Prim.Native.Nat.{_-_, _≤_}
@@ -19,27 +19,21 @@ Inv-loop bytes out₀ i₀ out i = (i ≤ length bytes) × (length out ≡ lengt
 abbrev μ-loop : tie.MeasureT-loop
 μ-loop bytes out₀ i₀ out i = length bytes - i
 
--- src/lib.rt:27:5
 loop-holds : tie.Need-loop-holds Inv-loop μ-loop
 loop-holds c = (omega arith, refl, over-none (c .args .out .now))
 
--- src/lib.rt:28:18
 shared-slice-read-out : tie.Need-shared-slice-read-out Inv-loop μ-loop
 shared-slice-read-out c = omega arith
 
--- src/lib.rt:28:9
 slice-write-out : tie.Need-slice-write-out Inv-loop μ-loop
 slice-write-out c = omega arith
 
--- src/lib.rt:29:9
 add-i : tie.Need-add-i Inv-loop μ-loop
 add-i c = omega arith
 
--- src/lib.rt:27:5
 loop-less : tie.Need-loop-less Inv-loop μ-loop
 loop-less c = omega arith
 
--- src/lib.rt:27:5
 loop-again : tie.Need-loop-again Inv-loop μ-loop
 loop-again c =
     let h = c .before .before in
@@ -51,11 +45,9 @@ loop-again c =
       rw (h .loop .inv .2, over-one-more (take i from) (h .before .args .out .now) i (getD from i 0) n (omega arith), add-one, take-suc from i 0 (omega arith)),
     )
 
--- src/lib.rt:22:1
 same-length : tie.Need-same-length Inv-loop μ-loop
 same-length c = omega arith
 
--- src/lib.rt:22:1
 returns : tie.Need-returns Inv-loop μ-loop
 returns c =
     let h = c .before in

@@ -1,4 +1,4 @@
--- `join`: the first text, and the second into the room behind it.
+-- `join` copies the first text, and then the second into the room behind it.
 -- Assumes nothing.
 use mathlib.Core.Path.{_∙_, ap}
 use Prim.Native.Nat.{_+_, _-_, _≤_, ℕ}
@@ -17,7 +17,6 @@ use Rattle.joining.proofs.copy.Reads as copy-reads
 use Rattle.joining.proofs.first_text.Reads as first-text-reads
 use Rattle.joining.proofs.second_text.Reads as second-text-reads
 
--- src/lib.rt:171:9
 -- both texts have room
 room : (c : tie.After-first-text) →
     let a = c .before .before .before .before .args in
@@ -37,27 +36,21 @@ room c =
 first-text-requires : tie.Need-first-text-requires
 first-text-requires c κs = search needs
 
--- src/lib.rt:172:5
 copy-requires : tie.Need-copy-requires
 copy-requires c κs = omega (arith, room (c .before))
 
--- src/lib.rt:175:9
 second-text-requires : tie.Need-second-text-requires
 second-text-requires c κs = search needs
 
--- src/lib.rt:176:9
 sub-copy : tie.Need-sub-copy
 sub-copy c = omega (arith, room (c .before .before .before .before .before), c .before .before .before .copy .kept .1 .0)
 
--- src/lib.rt:176:9
 part-copy-start : tie.Need-part-copy-start
 part-copy-start c = omega (arith, room (c .before .before .before .before .before), c .before .before .before .copy .kept .1 .0)
 
--- src/lib.rt:176:9
 part-copy-end : tie.Need-part-copy-end
 part-copy-end c = search needs
 
--- src/lib.rt:174:5
 copy-requires-2 : tie.Need-copy-requires-2
 copy-requires-2 c κs =
     simp (length-take, length-drop) (omega (
@@ -67,11 +60,9 @@ copy-requires-2 c κs =
       ap (λ (l : List ℕ). length l) (c .before .second-text .ensures),
     ))
 
--- src/lib.rt:159:1
 same-length : tie.Need-same-length
 same-length c = search needs
 
--- src/lib.rt:159:1
 returns : tie.Need-returns
 returns c =
     let a = c .before .before .before .before .before .before .before .before .before .before .before .before .before .args in

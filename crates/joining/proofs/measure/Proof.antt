@@ -1,4 +1,4 @@
--- `measure`: both strands' own tags, over what the scratch holds once both have restored it.
+-- `measure` measures both strands' own tags over a copy of the bases that both strands have restored.
 -- Assumes nothing.
 use mathlib.Core.Path.{_∙_, _≡_, ap, sym}
 use Prim.Native.Nat.{_-_, ℕ}
@@ -18,7 +18,6 @@ use Rattle.joining.proofs.restore.Reads as restore-reads
 use Rattle.joining.proofs.scratch.Reads as scratch-reads
 use Rattle.strand.proofs.measure.Reads as measure-reads
 
--- src/lib.rt:244:19
 -- the front of the scratch is SEQ as both strands restore it
 restored-front : (c : tie.After-restore) →
     let a = c .before .before .before .before .before .before .before .before .before .before .args in
@@ -36,46 +35,36 @@ restored-front c =
 scratch-requires : tie.Need-scratch-requires
 scratch-requires c κs = search needs
 
--- src/lib.rt:252:9
 slice-aggregate-restore : tie.Need-slice-aggregate-restore
 slice-aggregate-restore c = search needs
 
--- src/lib.rt:245:5
 restore-requires : tie.Need-restore-requires
 restore-requires c κs =
     let a = c .before .before .before .before .before .before .before .before .before .args in
     let pre = c .before .before .before .before .before .before .before .before .before .pre in
     (pre .0 .1, (λ (t : a .two ≡ true). pre .1 t .0), omega (arith, c .before .scratch .ensures))
 
--- src/lib.rt:256:9
 sub-measure : tie.Need-sub-measure
 sub-measure c = search needs
 
--- src/lib.rt:256:9
 part-measure-start : tie.Need-part-measure-start
 part-measure-start c = search needs
 
--- src/lib.rt:256:9
 part-measure-end : tie.Need-part-measure-end
 part-measure-end c = search needs
 
--- src/lib.rt:255:9
 measure-requires : tie.Need-measure-requires
 measure-requires c κs = search needs
 
--- src/lib.rt:265:9
 sub-measure-second : tie.Need-sub-measure-second
 sub-measure-second c = search needs
 
--- src/lib.rt:265:9
 part-measure-second-start : tie.Need-part-measure-second-start
 part-measure-second-start c = search needs
 
--- src/lib.rt:265:9
 part-measure-second-end : tie.Need-part-measure-second-end
 part-measure-second-end c = search needs
 
--- src/lib.rt:263:9
 measure-second-requires : tie.Need-measure-second-requires
 measure-second-requires c κs =
     let a = c .before .before .before .before .before .before .before .before .before .before .before .before .before .before .before .before .args in
@@ -84,7 +73,6 @@ measure-second-requires c κs =
     let long = ap (λ (l : List ℕ). length l) (f .0) ∙ f .1 in
     λ (t : a .two ≡ true). (omega (arith, long), pre .1 t .0 ∙ sym long, pre .1 t .1 ∙ sym long, pre .1 t .2 ∙ sym long)
 
--- src/lib.rt:221:1
 returns : tie.Need-returns
 returns c =
     let a = c .before .before .before .before .before .before .before .before .before .before .before .before .before .before .before .before .before .args in

@@ -1,4 +1,4 @@
--- `measure_second`: nothing where there is no second strand.
+-- `measure_second`: nothing if there is no second strand.
 -- Assumes nothing.
 use mathlib.Core.Path.{refl}
 use borrow.Author.Tests.{not-false, not-true}
@@ -9,18 +9,15 @@ use Rattle.joining.proofs.measure_second.Reads as reads
 use Rattle.joining.proofs.measure_second.Lts as lts
 use Rattle.strand.proofs.measure.Reads as measure-reads
 
--- src/lib.rt:208:9
 returns : tie.Need-returns
 returns c =
     let off = not-true (c .before .before .before .before .before .args .two) (c .if1 .taken) in
     rw off (refl, refl)
 
--- src/lib.rt:210:5
 measure-requires : tie.Need-measure-requires
 measure-requires c κs =
     c .before .before .before .before .before .pre (not-false (c .before .before .before .before .before .args .two) (c .if1 .left))
 
--- src/lib.rt:192:1
 returns-2 : tie.Need-returns-2
 returns-2 c =
     let on = not-false (c .before .before .before .before .before .before .args .two) (c .before .if1 .left) in

@@ -1,4 +1,4 @@
--- `put_second`: nothing where there is no second strand.
+-- `put_second`: nothing if there is no second strand.
 -- Assumes nothing.
 use mathlib.Core.Path.{_≡_, refl}
 use mathlib.Core.Bool.{true}
@@ -14,7 +14,6 @@ use Rattle.joining.proofs.put_second.Reads as reads
 use Rattle.joining.proofs.put_second.Lts as lts
 use Rattle.strand.proofs.put_tag.Reads as put-tag-reads
 
--- src/lib.rt:302:9
 put-tag-requires : tie.Need-put-tag-requires
 put-tag-requires c κs =
     let on = c .before .before .if1 .taken in
@@ -22,20 +21,16 @@ put-tag-requires c κs =
     (columns (c .before .before .before .before .before .before .before .before .before .args .informative .now) (c .before .before .before .before .before .before .before .before .before .args .unconverted .now) (c .before .before .before .before .before .before .before .before .before .args .converted .now)) (c .before .before .before .before .before .before .before .before .before .args .seq .now) .ml) = rw on at (c .before .before .before .before .before .before .before .before .before .pre .1) in
     (c .before .before .before .before .before .before .before .before .before .pre .0 on, calls)
 
--- src/lib.rt:281:1
 same-length : tie.Need-same-length
 same-length c = search needs
 
--- src/lib.rt:281:1
 same-length-2 : tie.Need-same-length-2
 same-length-2 c = search needs
 
--- src/lib.rt:281:1
 returns : tie.Need-returns
 returns c =
     rw (c .before .before .before .before .before .before .before .if1 .taken) (c .before .before .before .before .put-tag .ensures)
 
--- src/lib.rt:281:1
 returns-2 : tie.Need-returns-2
 returns-2 c = rw (c .if1 .left) (refl, refl)
 

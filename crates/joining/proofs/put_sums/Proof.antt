@@ -1,4 +1,4 @@
--- `put_sums`: the front of the row is the sums that were passed, the rest as lent.
+-- `put_sums`. Invariant: the front of the row holds the sums so far, and the rest is unchanged.
 -- Assumes nothing.
 use mathlib.Core.Path.{_≡_, refl}
 use Prim.Native.Nat.{_+_, _-_, _≤_, min, ℕ}
@@ -29,47 +29,36 @@ Inv-loop a b counts₀ i₀ counts i = (i ≤ length a) × (length counts ≡ le
 abbrev μ-loop : tie.MeasureT-loop
 μ-loop a b counts₀ i₀ counts i = length a - i
 
--- src/lib.rt:75:5
 loop-holds : tie.Need-loop-holds Inv-loop μ-loop
 loop-holds c = (omega arith, refl, over-none (c .before .before .args .counts .now))
 
--- src/lib.rt:76:28
 mul-sum-of : tie.Need-mul-sum-of Inv-loop μ-loop
 mul-sum-of c = omega arith
 
--- src/lib.rt:76:28
 shared-slice-read-sum-of : tie.Need-shared-slice-read-sum-of Inv-loop μ-loop
 shared-slice-read-sum-of c = omega arith
 
--- src/lib.rt:76:34
 mul-sum-of-2 : tie.Need-mul-sum-of-2 Inv-loop μ-loop
 mul-sum-of-2 c = omega arith
 
--- src/lib.rt:76:34
 shared-slice-read-sum-of-2 : tie.Need-shared-slice-read-sum-of-2 Inv-loop μ-loop
 shared-slice-read-sum-of-2 c = omega arith
 
--- src/lib.rt:76:21
 sum-of-requires : tie.Need-sum-of-requires Inv-loop μ-loop
 sum-of-requires c κs = search needs
 
--- src/lib.rt:76:9
 mul-t13 : tie.Need-mul-t13 Inv-loop μ-loop
 mul-t13 c = omega arith
 
--- src/lib.rt:76:9
 slice-set-from-counts : tie.Need-slice-set-from-counts Inv-loop μ-loop
 slice-set-from-counts c = omega arith
 
--- src/lib.rt:77:9
 add-i : tie.Need-add-i Inv-loop μ-loop
 add-i c = omega arith
 
--- src/lib.rt:75:5
 loop-less : tie.Need-loop-less Inv-loop μ-loop
 loop-less c = omega arith
 
--- src/lib.rt:75:5
 loop-again : tie.Need-loop-again Inv-loop μ-loop
 loop-again c =
     let h = c .before .before .before .before in
@@ -83,11 +72,9 @@ loop-again c =
       rw (stored, h .loop .inv .2) (over-tabulate-more i (sumAt (a .a .now) (a .b .now)) (a .counts .now) (omega arith)),
     )
 
--- src/lib.rt:70:1
 same-length : tie.Need-same-length Inv-loop μ-loop
 same-length c = omega arith
 
--- src/lib.rt:70:1
 returns : tie.Need-returns Inv-loop μ-loop
 returns c =
     let h = c .before in

@@ -1,4 +1,4 @@
--- `put_tags`: each strand's text to the front of its own row, its values where the join has them.
+-- `put_tags` writes each strand's text to the front of its own row, and its values where the joined tag has them.
 -- Assumes nothing.
 use mathlib.Core.Path.{_∙_, _≡_, ap, refl}
 use Prim.Native.Nat.{_+_, _-_, _≤_, ℕ}
@@ -23,7 +23,6 @@ use Rattle.joining.proofs.second_first.Reads as second-first-reads
 use Rattle.joining.proofs.start_of.Reads as start-of-reads
 use Rattle.strand.proofs.put_tag.Reads as put-tag-reads
 
--- src/lib.rt:361:9
 -- where the strands' values begin, and that there is room for them
 starts : (c : tie.After-start-of2) →
     let a = c .before .before .before .before .before .before .before .before .before .before .before .before .before .args in
@@ -45,15 +44,12 @@ starts c =
 second-first-requires : tie.Need-second-first-requires
 second-first-requires c κs = search needs
 
--- src/lib.rt:362:9
 start-of-requires : tie.Need-start-of-requires
 start-of-requires c κs = search needs
 
--- src/lib.rt:363:9
 start-of-requires-2 : tie.Need-start-of-requires-2
 start-of-requires-2 c κs = search needs
 
--- src/lib.rt:373:9
 -- the row of values once the first strand's are stored
 placed : (c : tie.After-put-tag) →
     let a = c .before .before .before .before .before .before .before .before .before .before .before .before .before .before .before .before .args in
@@ -70,19 +66,15 @@ placed c =
 sub-put-tag : tie.Need-sub-put-tag
 sub-put-tag c = omega (arith, starts (c .before))
 
--- src/lib.rt:373:9
 part-put-tag-start : tie.Need-part-put-tag-start
 part-put-tag-start c = omega (arith, starts (c .before))
 
--- src/lib.rt:373:9
 part-put-tag-end : tie.Need-part-put-tag-end
 part-put-tag-end c = search needs
 
--- src/lib.rt:364:5
 put-tag-requires : tie.Need-put-tag-requires
 put-tag-requires c κs = search needs
 
--- src/lib.rt:385:9
 sub-put-second : tie.Need-sub-put-second
 sub-put-second c =
     let a = c .before .before .before .before .before .before .before .before .before .before .before .before .before .before .before .before .before .before .before .before .before .args in
@@ -91,7 +83,6 @@ sub-put-second c =
     let long = ap (λ (l : List ℕ). length l) (placed (c .before .before .before .before .before)) ∙ length-sets (a .ml .now) start (own .ml) in
     omega (arith, long, starts (c .before .before .before .before .before .before .before .before) .3)
 
--- src/lib.rt:385:9
 part-put-second-start : tie.Need-part-put-second-start
 part-put-second-start c =
     let a = c .before .before .before .before .before .before .before .before .before .before .before .before .before .before .before .before .before .before .before .before .before .args in
@@ -100,30 +91,24 @@ part-put-second-start c =
     let long = ap (λ (l : List ℕ). length l) (placed (c .before .before .before .before .before)) ∙ length-sets (a .ml .now) start (own .ml) in
     omega (arith, long, starts (c .before .before .before .before .before .before .before .before) .3)
 
--- src/lib.rt:385:9
 part-put-second-end : tie.Need-part-put-second-end
 part-put-second-end c = search needs
 
--- src/lib.rt:375:5
 put-second-requires : tie.Need-put-second-requires
 put-second-requires c κs =
     let a = c .before .before .before .before .before .before .before .before .before .before .before .before .before .before .before .before .before .before .before .before .before .before .args in
     let pre = c .before .before .before .before .before .before .before .before .before .before .before .before .before .before .before .before .before .before .before .before .before .before .pre in
     ((λ (t : a .two ≡ true). (pre .0 .0, pre .1 .0 t .0, pre .1 .0 t .1, pre .1 .0 t .2)), pre .1 .1 .1)
 
--- src/lib.rt:327:1
 same-length : tie.Need-same-length
 same-length c = search needs
 
--- src/lib.rt:327:1
 same-length-2 : tie.Need-same-length-2
 same-length-2 c = search needs
 
--- src/lib.rt:327:1
 same-length-3 : tie.Need-same-length-3
 same-length-3 c = search needs
 
--- src/lib.rt:327:1
 returns : tie.Need-returns
 returns c =
     let a = c .before .before .before .before .before .before .before .before .before .before .before .before .before .before .before .before .before .before .before .before .before .before .before .before .before .before .before .args in

@@ -1,4 +1,4 @@
--- `restore`: a copy of the bases, whose front each strand restores in turn.
+-- `restore` copies the bases to the front of the row, and each strand restores them in turn.
 -- Assumes nothing.
 use mathlib.Core.Path.{_∙_, _≡_, ap, refl, sym}
 use Prim.Native.Nat.{_-_, ℕ}
@@ -18,7 +18,6 @@ use Rattle.joining.proofs.restore.Lts as lts
 use Rattle.columns.proofs.restore.Reads as restore-reads
 use Rattle.joining.proofs.copy.Reads as copy-reads
 
--- src/lib.rt:49:5
 -- after the first strand
 once : (c : tie.After-slice-known3) →
     let a = c .before .before .before .before .before .before .before .before .before .before .before .before .args in
@@ -38,35 +37,27 @@ once c =
 copy-requires : tie.Need-copy-requires
 copy-requires c κs = search needs
 
--- src/lib.rt:50:22
 sub-restore : tie.Need-sub-restore
 sub-restore c = search needs
 
--- src/lib.rt:50:22
 part-restore-start : tie.Need-part-restore-start
 part-restore-start c = search needs
 
--- src/lib.rt:50:22
 part-restore-end : tie.Need-part-restore-end
 part-restore-end c = search needs
 
--- src/lib.rt:50:5
 restore-requires : tie.Need-restore-requires
 restore-requires c κs = search needs
 
--- src/lib.rt:52:26
 sub-restore-2 : tie.Need-sub-restore-2
 sub-restore-2 c = search needs
 
--- src/lib.rt:52:26
 part-restore-start-2 : tie.Need-part-restore-start-2
 part-restore-start-2 c = search needs
 
--- src/lib.rt:52:26
 part-restore-end-2 : tie.Need-part-restore-end-2
 part-restore-end-2 c = search needs
 
--- src/lib.rt:52:9
 restore-requires-2 : tie.Need-restore-requires-2
 restore-requires-2 c κs =
     let a = c .before .before .before .before .before .before .before .before .before .before .before .before .before .before .args in
@@ -75,11 +66,9 @@ restore-requires-2 c κs =
     let held = front-held one (a .seq .now) _ (length (a .bases .now)) (o .0) (o .1) in
     c .before .before .before .before .before .before .before .before .before .before .before .before .before .before .pre .1 (c .before .if1 .taken) ∙ sym (o .1) ∙ sym (ap (λ (l : List ℕ). length l) held)
 
--- src/lib.rt:34:1
 same-length : tie.Need-same-length
 same-length c = search needs
 
--- src/lib.rt:34:1
 returns : tie.Need-returns
 returns c =
     let a = c .before .before .before .before .before .before .before .before .before .before .before .before .before .before .before .before .before .args in
@@ -93,11 +82,9 @@ returns c =
     let long : length both ≡ n = length-zip _ (a .second-informative .now) one (c .before .before .before .before .before .before .before .before .before .before .before .before .before .before .before .before .before .pre .1 on ∙ sym (o .1)) ∙ o .1 in
     rw (on, is) (front-changed one both (a .seq .now) _ n (o .0) (o .1) long)
 
--- src/lib.rt:34:1
 same-length-2 : tie.Need-same-length-2
 same-length-2 c = search needs
 
--- src/lib.rt:34:1
 returns-2 : tie.Need-returns-2
 returns-2 c = rw (c .if1 .left) (once (c .before) .0)
 

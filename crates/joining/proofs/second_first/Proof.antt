@@ -1,4 +1,4 @@
--- `second_first`: by the two patterns.
+-- `second_first`, by cases of the two patterns.
 -- Assumes nothing.
 use borrow.Author.Needs.{needs}
 use Rattle.joining.proofs.second_first.Statement.{statement}
@@ -6,31 +6,24 @@ use Rattle.joining.proofs.second_first.Tie as tie
 use Rattle.joining.proofs.second_first.Reads as reads
 use Rattle.joining.proofs.second_first.Lts as lts
 
--- src/lib.rt:112:36
 enum-told : tie.Need-enum-told
 enum-told c = search needs
 
--- src/lib.rt:113:36
 enum-told-2 : tie.Need-enum-told-2
 enum-told-2 c = search needs
 
--- src/lib.rt:114:40
 enum-told-3 : tie.Need-enum-told-3
 enum-told-3 c = search needs
 
--- src/lib.rt:115:40
 enum-told-4 : tie.Need-enum-told-4
 enum-told-4 c = search needs
 
--- src/lib.rt:108:1
 returns : tie.Need-returns
 returns c = rw (c .enum-told .given .1)
 
--- src/lib.rt:108:1
 returns-2 : tie.Need-returns-2
 returns-2 c = rw (c .enum-told3 .given .1, c .before .before .enum-told2 .given .1)
 
--- src/lib.rt:108:1
 returns-3 : tie.Need-returns-3
 returns-3 c = rw (c .enum-told4 .given .1, c .before .before .enum-told2 .given .1)
 

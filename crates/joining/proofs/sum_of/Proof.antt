@@ -1,4 +1,4 @@
--- `sum_of`: the sum, and 32,767 above it.
+-- `sum_of`: the sum, or 32,767 if the sum is larger.
 -- Assumes nothing.
 use mathlib.Core.Path.{_∙_, _≡_, ap}
 use Prim.Native.Nat.{_+_, min}
@@ -12,22 +12,18 @@ use Rattle.joining.proofs.sum_of.Tie as tie
 use Rattle.joining.proofs.sum_of.Reads as reads
 use Rattle.joining.proofs.sum_of.Lts as lts
 
--- src/lib.rt:62:17
 add-total : tie.Need-add-total
 add-total c = search needs
 
--- src/lib.rt:64:9
 returns : tie.Need-returns
 returns c =
     let a = c .before .args in
     let e : 32767 ≡ min 32767 (a .a + a .b) = omega arith in
     ap pos e
 
--- src/lib.rt:66:5
 cast-result : tie.Need-cast-result
 cast-result c = search needs
 
--- src/lib.rt:59:1
 returns-2 : tie.Need-returns-2
 returns-2 c =
     let a = c .before .args in

@@ -1,4 +1,4 @@
--- `body_of`: from the third byte on, or the empty part where the line ends before.
+-- `body_of`: the line from its third byte on, or the empty part if the line has fewer than two bytes.
 -- Assumes nothing.
 use borrow.Author.Needs.{needs}
 use native.Mathlib.Omega.{arith}

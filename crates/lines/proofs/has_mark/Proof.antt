@@ -1,4 +1,4 @@
--- `has_mark`: a line that is too short, one whose first byte differs, and what the second byte says.
+-- `has_mark`, by cases: the line is too short, its first byte differs, or the second byte decides.
 -- Assumes nothing.
 use borrow.Author.Needs.{needs}
 use mathlib.Core.Path.{sym}

@@ -1,4 +1,4 @@
--- `up_to`: the part up to where the byte stands, or up to the text's end.
+-- `up_to`: the part before the next byte c, or up to the text's end.
 -- Assumes nothing.
 use mathlib.Core.Path.{_≡_}
 use Prim.Native.Nat.{_+_, _-_, _≤_}

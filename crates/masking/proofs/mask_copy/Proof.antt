@@ -1,4 +1,4 @@
--- `mask_copy`: SEQ at the front of the row, and N stored there is N masked.
+-- `mask_copy` copies SEQ to the front of the row. Storing N at the places of the copy masks it.
 -- Assumes nothing.
 use mathlib.Core.Path.{_∙_, _≡_, ap}
 use lib.ListN.{length, take}

@@ -1,4 +1,4 @@
--- `mask_to`: the tag is edited where it stands, by a window that cuts nothing off; and only then `after` is put over SEQ.
+-- `mask_to` edits the tag in place, with a window that cuts nothing off. Only then it writes `after` over SEQ.
 -- Assumes nothing.
 use mathlib.Core.Path.{_∙_, _≡_, ap, subst, sym}
 use Prim.Native.Nat.{_-_, ℕ}
@@ -23,11 +23,11 @@ use Rattle.stepping.specs.Steps.{came, memory}
 use Rattle.masking.proofs.mask_to.Statement.{statement}
 use Rattle.masking.proofs.mask_to.Tie as tie
 
--- the rows as they were lent
+-- the rows before the call
 abbrev before : tie.Start → Memory
 before s = memory (s .args .seq .now) (s .args .mm .now) (s .args .ml .now) (s .args .lengths)
 
--- what the edit comes to
+-- the outcome of the edit
 abbrev outcome : tie.Start → Outcome Tag
 outcome s =
     let h = heldIn (before s) in

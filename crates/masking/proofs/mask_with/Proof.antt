@@ -1,4 +1,4 @@
--- `mask_with`: SEQ as it will be, and then the step.
+-- `mask_with` makes the masked copy of SEQ, and then the step.
 -- Assumes nothing.
 use mathlib.Core.Path.{_∙_, _≡_, ap, sym}
 use Prim.Native.Nat.{_-_, ℕ}

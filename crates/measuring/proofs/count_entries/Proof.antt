@@ -1,4 +1,4 @@
--- `count_entries`: what is read from the group's first entry on is what is read from here on, over as many places as are left.
+-- `count_entries`. Invariant: reading the remaining entries, over as many places as are left, gives the result for all entries of the group.
 -- Assumes nothing.
 use mathlib.Core.Path.{_∙_, _≡_, ap, refl, sym}
 use Prim.Native.Nat.{_+_, _-_, _<_, _≤_, ℕ}

@@ -1,4 +1,4 @@
--- `count_group`: the header, and then the entries, whose contract says the rest over the places of the group's base.
+-- `count_group` reads the header, and then the entries over the places of the group's base, for which the contract of `count_entries` is used.
 -- Assumes nothing.
 use mathlib.Core.Path.{_∙_, _≡_, ap, subst, sym}
 use Prim.Native.Nat.{_+_, _≤_, ℕ}

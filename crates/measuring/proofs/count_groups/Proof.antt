@@ -1,4 +1,4 @@
--- `count_groups`: what is read from the first group on is what is read from here on, after the groups and calls that were passed.
+-- `count_groups`. Invariant: reading the remaining groups, after the groups and calls counted so far, gives the result for all groups.
 -- Assumes nothing.
 use mathlib.Core.Path.{_∙_, _≡_, ap, refl, subst}
 use Prim.Native.Nat.{_-_, _<_, _≤_, ℕ}
@@ -19,7 +19,7 @@ use Rattle.measuring.specs.declared.Count.{Count}
 use Rattle.measuring.specs.declared.Counted.{Counted}
 use Rattle.measuring.proofs.count_groups.Tie as tie
 
--- what the reading from a cursor on comes to
+-- the outcome of reading from a cursor on
 abbrev counted-from : Bool → (ℕ → Bool) → List ℕ → List ℕ → List ℕ → Count → Outcome (ℕ × ℕ)
 counted-from ml? named seq text ml c =
     onDone (groupsCounted (c .group) (c .calls)) (readGroups ml? named seq (closedBy 59 (drop (c .at) text)) (drop (c .used) ml))

@@ -1,4 +1,4 @@
--- `count_tag`: 3 and 4, and then the groups.
+-- `count_tag` checks for 3 and 4, and then counts the groups.
 -- Assumes nothing.
 use mathlib.Core.Path.{_∙_, _≡_, subst, sym}
 use Prim.Native.Nat.{ℕ}

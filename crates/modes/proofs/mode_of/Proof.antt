@@ -1,4 +1,4 @@
--- `mode_of`: the chemistry with a number.
+-- `mode_of`, by cases of the number.
 -- Assumes nothing.
 use native.Mathlib.Omega.{arith}
 use mathlib.Core.Path.{refl}

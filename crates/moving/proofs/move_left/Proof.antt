@@ -1,4 +1,4 @@
--- `move_left`: what is left to move, from here on, gives what all of it gives from the start; and what is left stands as it did.
+-- `move_left`. Invariant: moving the remaining bytes gives the result of moving all of them, and the remaining bytes are unchanged.
 -- Assumes nothing.
 use mathlib.Core.Path.{_∙_, _≡_, ap, refl, sym}
 use Prim.Native.Nat.{_+_, _-_, _≤_, ℕ}

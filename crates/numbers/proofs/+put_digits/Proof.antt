@@ -1,4 +1,4 @@
--- `put_digits`: all digits but the last are those of the tenth part, written by the same function; the last is the remainder's.
+-- `put_digits`: all digits but the last are those of a tenth of the number, written by the same function. The last digit is the remainder.
 -- Assumes nothing.
 use mathlib.Core.Path.{_∙_, _≡_, ap, sym}
 use Prim.Native.Nat.{ℕ, _<_, _%_, _+_, _/_, _≤_}

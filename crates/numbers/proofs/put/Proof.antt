@@ -1,4 +1,4 @@
--- `put`: a store within the room; past it the row is as it was.
+-- `put` stores the byte if the place has room; past the room the row is unchanged.
 -- Assumes nothing.
 use mathlib.Core.Path.{sym}
 use native.Mathlib.Omega.{arith}

@@ -1,4 +1,4 @@
--- `put_decimal`: one digit, or the digits.
+-- `put_decimal` writes one digit itself, and calls `put_digits` for more.
 -- Assumes nothing.
 use mathlib.Core.Path.{_∙_, _≡_, ap, sym}
 use Prim.Native.Nat.{_+_, _<_}

@@ -1,4 +1,4 @@
--- `read_skip`: digit by digit, up to a byte that is none.
+-- `read_skip` reads digit by digit, up to the first byte that is not a digit.
 -- Assumes nothing.
 use mathlib.Core.Path.{_∙_, _≡_, refl}
 use Prim.Native.Nat.{_*_, _+_, _-_, _≤_, min}

@@ -1,4 +1,4 @@
--- `with_digit`: ten times the number and the digit, and no more than the bound.
+-- `with_digit`: ten times the number plus the digit, and at most the bound.
 -- Assumes nothing.
 use native.Mathlib.Omega.{arith}
 use Rattle.numbers.proofs.with_digit.Statement.{statement}

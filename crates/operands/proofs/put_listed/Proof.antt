@@ -1,4 +1,4 @@
--- `put_listed`: the fields that are left, stored in the row as it is, give what all of them give in the row as it was.
+-- `put_listed`. Invariant: storing at the remaining listed places in the present row gives the same as storing at all of them in the row that was lent.
 -- Assumes nothing.
 use mathlib.Core.Path.{_∙_, _≡_, ap, sym, refl}
 use Prim.Native.Nat.{_+_, _-_, _≤_, _<_, ℕ}

@@ -1,4 +1,4 @@
--- `put_values`: the values that are left, put from here on, give what all of them give from the start.
+-- `put_values`. Invariant: storing the remaining values behind those already stored gives the same as storing all of them from the start.
 -- Assumes nothing.
 use mathlib.Core.Path.{_∙_, _≡_, ap, sym, refl}
 use Prim.Native.Nat.{_+_, _-_, _≤_, _<_, suc, ℕ}

@@ -1,4 +1,4 @@
--- `read_ends`: two fields, no more, and each a number.
+-- `read_ends` takes exactly two fields, and each must be a number.
 -- Assumes nothing.
 use mathlib.Core.Path.{_∙_, _≡_, ap, sym}
 use Prim.Native.Nat.{_+_, _≤_}

@@ -1,4 +1,4 @@
--- `read_number`: the skip reader's answer, read up to one more than the most.
+-- `read_number`: the skip reader's answer, read up to one more than the largest allowed number.
 -- Assumes nothing.
 use mathlib.Core.Path.{_∙_, ap, sym}
 use native.Mathlib.Omega.{arith}

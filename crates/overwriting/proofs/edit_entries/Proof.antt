@@ -1,5 +1,5 @@
--- `edit_entries`: what is read and put from the first entry on is what is read and put from here on, after what was put; what was put stays behind
--- what was read, and so what is still to be read stands as it did.
+-- `edit_entries`. Invariant: reading and writing the remaining entries, after what is written, gives the result for all entries. Writing never overtakes
+-- reading, so what is still to be read is unchanged.
 -- Assumes nothing.
 use mathlib.Core.Path.{_∙_, _≡_, ap, refl, subst, sym}
 use Prim.Native.Nat.{_+_, _-_, _<_, _≤_, ℕ}
@@ -35,7 +35,7 @@ use Rattle.strides.specs.declared.Window.{Window}
 use Rattle.overwriting.proofs.edit_entries.Statement.{statement}
 use Rattle.overwriting.proofs.edit_entries.Tie as tie
 
--- what the reading from a separator, a place and a value on comes to, changed and put
+-- the outcome of reading from a separator, a place and a value on, changed and written
 abbrev put-from : List ℕ → List ℕ → List ℕ → List ℕ → List ℕ → Window → Kind → Draft → ℕ → ℕ → ℕ → ℕ → Outcome (Draft × List ℕ)
 put-from seq after marks text ml window kind w gap used at from =
     onDone (spotsPut (heldIn (window .lo) after (kind .base)) (isMarked marks) w gap)
@@ -72,7 +72,7 @@ known l =
     subst (λ (p : Pen). Inv-loop (a .seq .now) (a .after .now) (a .marks .now) (a .window) (a .kind) (a .text .now) (a .ml .now) (a .start .at) (a .start .used) p
     (h .from) (h .text) (h .ml) (h .at) (h .used) (h .pen) (h .from)) (l .before .pen .ensures) (h .inv)
 
--- the field at the cursor stands as it did
+-- the field at the cursor is unchanged
 field-there : (s : tie.After-next-field Inv-loop μ-loop) → s .next-field .result .now ≡ fieldOf (drop (s .before .before .before .before .loop .at
     + 1) (start-of (s .before .before .before .before) .args .text .now))
 field-there s =

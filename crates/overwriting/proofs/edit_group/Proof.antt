@@ -1,4 +1,5 @@
--- `edit_group`: the header moves to the row's start, behind it the entries stand as they did; their contract says the rest, and the ';' follows.
+-- `edit_group` moves the header to the row's start, and the entries behind it are unchanged. The contract of `edit_entries` covers the entries, and the
+-- ';' follows.
 -- Assumes nothing.
 use mathlib.Core.Path.{_∙_, _≡_, ap, refl, subst, sym}
 use Prim.Native.Nat.{_+_, _<_, _≤_, ℕ}
@@ -43,7 +44,7 @@ header-moved m =
     subst (λ (h : List ℕ). m .move-left .last .0 ≡ sets (a .text .now) 0 h)
     (field-part (drop (a .at) (a .text .now)) (length (f .result .now)) (ap length (sym (f .ensures))) ∙ sym (f .ensures)) (m .move-left .ensures)
 
--- from the entries on the row stands as it did
+-- from the entries on the row is unchanged
 entries-stand : (m : tie.After-move-left) →
     let e = m .before .before .before .before .before .before .before .before .before .before .before .args .at + length
     (m .before .before .before .before .next-field .result .now) in

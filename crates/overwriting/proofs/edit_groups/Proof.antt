@@ -1,5 +1,5 @@
--- `edit_groups`: what is read and put from the first group on is what is read and put from here on, after what was put; and what is still to be read
--- stands as it did.
+-- `edit_groups`. Invariant: reading and writing the remaining groups, after what is written, gives the result for all groups; and what is still to be read
+-- is unchanged.
 -- Assumes nothing.
 use mathlib.Core.Path.{_∙_, _≡_, ap, refl, subst, sym}
 use Prim.Native.Nat.{_+_, _-_, _<_, _≤_, min, ℕ}
@@ -27,7 +27,7 @@ use Rattle.places.proofs.TextLaws.{ahead, groups-done, groups-over}
 use Rattle.overwriting.proofs.edit_groups.Statement.{statement}
 use Rattle.overwriting.proofs.edit_groups.Tie as tie
 
--- what the reading of text₀ and ml₀ from a cursor on comes to, changed and put into text and ml
+-- the outcome of reading text₀ and ml₀ from a cursor on, changed and written into text and ml
 abbrev put-from : List ℕ → List ℕ → List ℕ → ℕ → Bool → List ℕ → List ℕ → List ℕ → List ℕ → Cursor → Outcome Draft
 put-from seq after marks lo ml? text₀ ml₀ text ml c =
     onDone (tagPut (draft text (c .end) ml (c .kept))) (editedGroups (windowEdit lo after marks)

@@ -1,4 +1,4 @@
--- `put_entry`: a base that is gone leaves the rows as they are, a dropped call is one base more that was passed, any other is put.
+-- `put_entry`, by cases: a base that is gone leaves the rows unchanged, a dropped call counts as one more passed base, and any other call is written.
 -- Assumes nothing.
 use mathlib.Core.Path.{_∙_, _≡_, refl, sym}
 use Prim.Native.Nat.{_+_}

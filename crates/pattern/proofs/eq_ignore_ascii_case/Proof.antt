@@ -1,4 +1,4 @@
--- `eq_ignore_ascii_case`: a byte that is no letter is the same as itself alone; a letter as each byte that differs from it in its case at most.
+-- `eq_ignore_ascii_case`: a byte that is not a letter is the same only as itself. A letter is the same as each byte that differs from it in case at most.
 -- Assumes nothing.
 use native.Mathlib.Omega.{arith}
 use Rattle.pattern.proofs.Cases.{same-below, same-letter, same-past}

@@ -1,4 +1,4 @@
--- `to_ascii_uppercase` gives the upper case of its byte: below 'a', past 'z', between them.
+-- `to_ascii_uppercase` returns the upper case of its byte, by cases: below 'a', past 'z', or between them.
 -- Assumes nothing.
 use native.Mathlib.Omega.{arith}
 use borrow.Author.Needs.{needs}

@@ -1,4 +1,4 @@
--- `ahead`: at the place itself, or behind blocks.
+-- `ahead` starts at the place itself, or behind whole blocks.
 -- Assumes nothing.
 use mathlib.Core.Path.{_≡_, ap, refl, sym}
 use mathlib.Core.Bool.{true}

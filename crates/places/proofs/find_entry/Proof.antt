@@ -1,4 +1,4 @@
--- `find_entry`: 6 of the skip reader, 7 where the walk finds nothing, else the place.
+-- `find_entry` passes on 6 of the skip reader, answers 7 if the walk finds nothing, and otherwise answers with the place.
 -- Assumes nothing.
 use mathlib.Core.Path.{_∙_, ap, sym}
 use Prim.Native.Nat.{_≤_}

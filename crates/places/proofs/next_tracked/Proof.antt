@@ -1,4 +1,4 @@
--- `next_tracked`: from where it begins, as many of the group's bases are left to pass as `skip` is ahead of the ordinal.
+-- `next_tracked`. Invariant: the number of the group's bases still to pass is `skip` minus the ordinal.
 -- Assumes nothing.
 use mathlib.Core.Path.{_∙_, _≡_, ap, refl, sym}
 use Prim.Native.Nat.{_+_, _-_, _≤_}

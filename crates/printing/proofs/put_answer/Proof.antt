@@ -1,4 +1,4 @@
--- `put_answer`: two bytes, the digits, and LF.
+-- `put_answer` writes two bytes, the digits, and LF.
 -- Assumes nothing.
 use native.Mathlib.Omega.{arith}
 use borrow.Author.Needs.{needs}

@@ -1,4 +1,4 @@
--- `put_decimals`: the first, and a comma before each that follows.
+-- `put_decimals` writes the first value, and a comma before each of the others.
 -- Assumes nothing.
 use mathlib.Core.Path.{_∙_, _≡_, ap, sym, refl}
 use Prim.Native.Nat.{_+_, _-_, _*_, _≤_, _<_}

@@ -1,4 +1,4 @@
--- `put_line`: two bytes, a run of them, and LF.
+-- `put_line` writes two bytes, the body, and LF.
 -- Assumes nothing.
 use borrow.Author.Needs.{needs}
 use Rattle.printing.proofs.OutputLaws.{line-stored}

@@ -1,4 +1,4 @@
--- `put_values_line`: two bytes, the values, and LF.
+-- `put_values_line` writes two bytes, the values, and LF.
 -- Assumes nothing.
 use borrow.Author.Needs.{needs}
 use Rattle.printing.proofs.OutputLaws.{line-stored}

@@ -1,4 +1,4 @@
--- `check_tag`: the refusal, or the counts of the first walk.
+-- `check_tag` answers with the refusal, or with the counts of the first walk.
 -- Assumes nothing.
 use mathlib.Core.Path.{_∙_, _≡_, ap, subst, sym}
 use borrow.Author.Needs.{needs}

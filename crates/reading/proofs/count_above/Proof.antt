@@ -1,4 +1,4 @@
--- `count_above`: one value after the other.
+-- `count_above` looks at one value after the other.
 -- Assumes nothing.
 use mathlib.Core.Path.{_∙_, _≡_, ap, refl}
 use Prim.Native.Nat.{_+_, _-_, _<_, _≤_, ℕ}

@@ -1,4 +1,4 @@
--- `measure`: 1, and then the whole tag over as much of ML as there is.
+-- `measure` checks for 1, and then reads the tag with all of ML, or with none if there is no ML.
 -- Assumes nothing.
 use mathlib.Core.Path.{_∙_, _≡_, refl, subst, sym}
 use Prim.Native.Nat.{_-_}

@@ -1,4 +1,5 @@
--- `read_calls`: the first walk refuses or measures; what does not fit is 12; and the second walk, over the caller's columns, lists the same groups.
+-- `read_calls`: the first walk refuses or measures, and a list that does not fit is refused with 12. The second walk, over the caller's columns, lists the
+-- same groups.
 -- Assumes nothing.
 use mathlib.Core.Path.{_∙_, _≡_, ap, subst, sym}
 use Prim.Native.Nat.{_-_, ℕ}

@@ -1,4 +1,4 @@
--- `tally`: the refusal, or what the walk counted above, and the rest of ML below.
+-- `tally` answers with the refusal, or with the number of values from 128 on and the number of all others.
 -- Assumes nothing.
 use mathlib.Core.Path.{_∙_, _≡_, ap, subst, sym}
 use native.Mathlib.Omega.{arith}

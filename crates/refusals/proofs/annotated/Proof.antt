@@ -1,4 +1,4 @@
--- `annotated` answers 1 for what is too long, then 2 where lengths, bases and aligned bytes disagree, then 12 where a column has no room.
+-- `annotated` answers 1 if an input is too long, then 2 if lengths, bases and aligned bytes disagree, then 12 if a column has no room.
 -- Assumes nothing.
 use native.Mathlib.Omega.{arith}
 use borrow.Author.Needs.{needs}

@@ -1,4 +1,4 @@
--- `counts_in_room` passes on what the columns come to, and answers 12 where their counts have no room.
+-- `counts_in_room` passes on a refusal of the columns, and answers 12 if their counts have no room.
 -- Assumes nothing.
 use mathlib.Core.Path.{sym}
 use native.Mathlib.Omega.{arith}

@@ -1,4 +1,4 @@
--- `in_room` answers 12 where one of the three rows is too short.
+-- `in_room` answers 12 if one of the three rows is too short.
 -- Assumes nothing.
 use native.Mathlib.Omega.{arith}
 use borrow.Author.Tests.{le-leb, lt-leb}

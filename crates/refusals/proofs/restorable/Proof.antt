@@ -1,4 +1,4 @@
--- `restorable` answers 1 for what is too long, then 2 where the lengths disagree.
+-- `restorable` answers 1 if an input is too long, then 2 if the lengths disagree.
 -- Assumes nothing.
 use native.Mathlib.Omega.{arith}
 use borrow.Author.Tests.{eq-eqb, le-leb, lt-leb, ne-eqb}

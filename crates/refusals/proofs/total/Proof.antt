@@ -1,4 +1,4 @@
--- `total`: what was passed and the sum of the lengths from here on are the whole sum, and each length was below 2^32.
+-- `total`. Invariant: the sum so far plus the sum of the remaining lengths is the whole sum, and each length is below 2^32.
 -- Assumes nothing.
 use mathlib.Core.Path.{_≡_}
 use Prim.Native.Nat.{_+_, _*_, _-_, _≤_}

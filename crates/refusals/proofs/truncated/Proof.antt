@@ -1,4 +1,4 @@
--- `truncated` passes on what the columns come to, and asks for room for as many of their positions as are kept.
+-- `truncated` passes on a refusal of the columns, and checks the room for the positions that are kept.
 -- Assumes nothing.
 use mathlib.Core.Path.{sym}
 use borrow.Author.Needs.{needs}

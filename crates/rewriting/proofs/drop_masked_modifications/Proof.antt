@@ -1,4 +1,4 @@
--- `drop_masked_modifications`: 1 and 2, and then the edit over a window that cuts nothing off.
+-- `drop_masked_modifications` checks for 1 and 2, and then edits with a window that cuts nothing off.
 -- Assumes nothing.
 use mathlib.Core.Path.{_∙_, _≡_, ap, sym}
 use native.Mathlib.Omega.{arith}

@@ -1,4 +1,4 @@
--- `drop_modifications_at`: 1, and then the drop with a row for the marks, the short one or the long one.
+-- `drop_modifications_at` checks for 1, and then drops with a row for the marks, the short or the long one.
 -- Assumes nothing.
 use mathlib.Core.Path.{_∙_, _≡_, refl, sym}
 use native.Mathlib.Omega.{arith}

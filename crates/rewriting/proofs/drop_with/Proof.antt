@@ -1,4 +1,4 @@
--- `drop_with`: the places marked in the lent row, and then the edit over all of SEQ.
+-- `drop_with` marks the places in the lent row, and then edits over all of SEQ.
 -- Assumes nothing.
 use mathlib.Core.Path.{_∙_, _≡_, ap, sym}
 use Prim.Native.Nat.{ℕ}

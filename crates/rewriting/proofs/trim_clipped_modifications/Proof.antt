@@ -1,4 +1,4 @@
--- `trim_clipped_modifications`: 1, 21, 11, and then the edit over the window.
+-- `trim_clipped_modifications` checks for 1, 21 and 11, and then edits over the window.
 -- Assumes nothing.
 use mathlib.Core.Path.{_∙_, _≡_, ap, sym}
 use native.Mathlib.Omega.{arith}

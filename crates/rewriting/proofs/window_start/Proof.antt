@@ -1,4 +1,4 @@
--- `window_start`: 0 where the lengths agree, else what was given.
+-- `window_start`: 0 if the lengths agree, and otherwise the given start.
 -- Assumes nothing.
 use native.Mathlib.Omega.{arith}
 use borrow.Author.Tests.{eq-eqb, ne-eqb}

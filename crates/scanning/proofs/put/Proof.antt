@@ -1,4 +1,4 @@
--- `put`: a store within the column; past it the column is as it was.
+-- `put` stores the entry if the column reaches so far; past its end the column is unchanged.
 -- Assumes nothing.
 use mathlib.Core.Path.{sym}
 use native.Mathlib.Omega.{arith}

@@ -1,4 +1,4 @@
--- `scan_entries`: what is read from the group's first entry on is what is read from here on, after the calls that the columns hold.
+-- `scan_entries`. Invariant: reading the remaining entries, after the calls that the columns hold, gives the result for all entries of the group.
 -- Assumes nothing.
 use mathlib.Core.Path.{_∙_, _≡_, ap, refl, sym}
 use Prim.Native.Nat.{_+_, _-_, _<_, _≤_, ℕ}

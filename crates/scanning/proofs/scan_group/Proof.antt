@@ -1,4 +1,4 @@
--- `scan_group`: the header, and then the entries, whose contract says the rest.
+-- `scan_group` reads the header, and then the entries, for which the contract of `scan_entries` is used.
 -- Assumes nothing.
 use mathlib.Core.Path.{_∙_, _≡_, ap, subst, sym}
 use Prim.Native.Nat.{_+_, ℕ}

@@ -1,4 +1,4 @@
--- `scan_groups`: what is read from the first group on is what is read from here on, after the groups and calls that were passed.
+-- `scan_groups`. Invariant: reading the remaining groups, after the groups and calls so far, gives the result for all groups.
 -- Assumes nothing.
 use mathlib.Core.Path.{_∙_, _≡_, ap, refl, subst, sym}
 use Prim.Native.Nat.{_-_, _<_, _≤_, ℕ}

@@ -1,4 +1,4 @@
--- `answer_rest`: what is said from here on, put from here on, gives what is said from the start.
+-- `answer_rest`. Invariant: the output so far, followed by the output for the remaining lines, is the whole output.
 -- Assumes nothing.
 use mathlib.Core.Path.{_∙_, _≡_, ap, refl, subst, sym}
 use Prim.Native.Nat.{_+_, _-_, _≤_, ℕ}
@@ -53,7 +53,7 @@ line-at k = k .before .before .before .before .before .before .before .before .b
 abbrev step-at : tie.After-answered Inv-loop μ-loop → tie.After-answer-line Inv-loop μ-loop
 step-at k = k .before .before .before .before .before .before .before .before
 
--- the rows and lengths where the loop stands
+-- the rows and lengths at the loop's index
 abbrev rows : tie.At-loop Inv-loop μ-loop → Memory
 rows k = memory (k .loop .seq) (k .loop .mm) (k .loop .ml) (k .loop .held)
 
@@ -69,7 +69,7 @@ within k =
     subst (λ (l : List ℕ). stands k .loop .place + length l ≤ length (begun k .args .input .now))
     (sym (k .next-line .ensures)) (up-to-within 10 (begun k .args .input .now) (stands k .loop .place) (omega arith))
 
--- what a line that asks for a step comes to
+-- the outcome of a line that asks for a step
 turn : (k : tie.After-answered Inv-loop μ-loop)
     → Turned (asked k .args .has-ml) (asked k .args .input .now) (turning k .loop .place) (rows (turning k))
     (tested k .loop-test .taken) (line-at k .next-line .result .now) (line-at k .next-line .ensures) (k .answered .given .0 .0)

@@ -1,4 +1,4 @@
--- `put_closing`: the line of SEQ, the line of the text, and the line of an ML that was given.
+-- `put_closing` writes the line of SEQ, the line of the text, and the line of ML if an ML was given.
 -- Assumes nothing.
 use mathlib.Core.Path.{_≡_, ap}
 use Prim.Native.Nat.{_-_, _≤_, ℕ}

@@ -1,4 +1,4 @@
--- `cut`: the order of the lengths, and then the step.
+-- `cut` checks that the lengths are in order, and then makes the step.
 -- Assumes nothing.
 use mathlib.Core.Path.{_∙_, _≡_, ap, sym}
 use borrow.Author.Needs.{needs}
@@ -11,7 +11,7 @@ use Rattle.stepping.proofs.StepLaws.{left-as-was, refused-by-order}
 use Rattle.session.proofs.cut.Statement.{statement}
 use Rattle.session.proofs.cut.Tie as tie
 
--- the rows as they were lent
+-- the rows before the call
 abbrev before : tie.Start → Memory
 before s = memory (s .args .seq .now) (s .args .mm .now) (s .args .ml .now) (s .args .lengths)
 

@@ -1,4 +1,4 @@
--- `drop_calls`: the order of the lengths, and then the drop with a row for the marks, the short one or the long one.
+-- `drop_calls` checks that the lengths are in order, and then drops with a row for the marks, the short or the long one.
 -- Assumes nothing.
 use mathlib.Core.Path.{_∙_, _≡_, ap, refl, sym}
 use native.Mathlib.Omega.{arith}
@@ -12,7 +12,7 @@ use Rattle.stepping.specs.Steps.{Ordered, came, memory, orderRefusal, orderSays
 use Rattle.session.proofs.drop_calls.Statement.{statement}
 use Rattle.session.proofs.drop_calls.Tie as tie
 
--- the rows as they were lent
+-- the rows before the call
 abbrev before : tie.Start → Memory
 before s = memory (s .args .seq .now) (s .args .mm .now) (s .args .ml .now) (s .args .lengths)
 

@@ -1,4 +1,4 @@
--- `mask`: the order of the lengths, and then the mask with a row for SEQ as it will be, the short one or the long one.
+-- `mask` checks that the lengths are in order, and then masks with a row for the masked SEQ, the short or the long one.
 -- Assumes nothing.
 use mathlib.Core.Path.{_∙_, _≡_, ap, sym}
 use native.Mathlib.Omega.{arith}
@@ -12,7 +12,7 @@ use Rattle.stepping.specs.Steps.{Ordered, came, memory, orderRefusal, orderSays
 use Rattle.session.proofs.mask.Statement.{statement}
 use Rattle.session.proofs.mask.Tie as tie
 
--- the rows as they were lent
+-- the rows before the call
 abbrev before : tie.Start → Memory
 before s = memory (s .args .seq .now) (s .args .mm .now) (s .args .ml .now) (s .args .lengths)
 

@@ -1,4 +1,4 @@
--- `open`: the order of the lengths, and then the reader on the front of each row.
+-- `open` checks that the lengths are in order, and then calls the reader on the front of each row.
 -- Assumes nothing.
 use mathlib.Core.Path.{_∙_, _≡_, ap, sym}
 use Prim.Native.Nat.{_-_}
@@ -16,7 +16,7 @@ use Rattle.stepping.specs.Steps.{Ordered, memory, orderRefusal, orderSays}
 use Rattle.session.proofs.open.Statement.{statement}
 use Rattle.session.proofs.open.Tie as tie
 
--- the rows as they were lent
+-- the rows before the call
 abbrev before : tie.Start → Memory
 before s = memory (s .args .seq .now) (s .args .mm .now) (s .args .ml .now) (s .args .lengths)
 

@@ -1,4 +1,4 @@
--- `lengths_now`: what is left of ML, or without an ML the length as it was.
+-- `lengths_now`: ML's new length is the number of values left; without ML it is unchanged.
 -- Assumes nothing.
 use native.Mathlib.Omega.{arith}
 use Rattle.stepping.proofs.lengths_now.Statement.{statement}

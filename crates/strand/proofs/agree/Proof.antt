@@ -1,4 +1,4 @@
--- `agree`: each length is held against SEQ's.
+-- `agree` compares each length with SEQ's.
 -- Assumes nothing.
 use native.Mathlib.Omega.{arith}
 use lib.ListN.{length}
@@ -8,13 +8,11 @@ use Rattle.strand.proofs.agree.Tie as tie
 use Rattle.strand.proofs.agree.Reads as reads
 use Rattle.strand.proofs.agree.Lts as lts
 
--- src/lib.rt:69:9
 returns : tie.Need-returns
 returns c =
     let a = c .before .args in
     rw (ne-eqb (length (a .informative .now)) (length (a .seq .now)) (omega arith))
 
--- src/lib.rt:72:9
 returns-2 : tie.Need-returns-2
 returns-2 c =
     let a = c .before .before .args in
@@ -23,7 +21,6 @@ returns-2 c =
       ne-eqb (length (a .unconverted .now)) (length (a .seq .now)) (omega arith),
     )
 
--- src/lib.rt:65:1
 returns-3 : tie.Need-returns-3
 returns-3 c =
     let a = c .before .before .args in

@@ -1,4 +1,4 @@
--- `call_of`: no call where the mark says no or nothing was counted, else its value.
+-- `call_of`: no call if the place is not informative or nothing was counted there, and otherwise the call's value.
 -- Assumes nothing.
 use mathlib.Core.Path.{_∙_, _≡_, ap}
 use Prim.Native.Nat.{_+_, ℕ}
@@ -14,18 +14,15 @@ use Rattle.strand.proofs.call_of.Lts as lts
 use Rattle.strand.proofs.ml_value.Reads as ml-value-reads
 use Rattle.strand.proofs.numerator.Reads as numerator-reads
 
--- src/lib.rt:68:9
 returns : tie.Need-returns
 unfolding called
 returns c =
     let no : c .before .args .informative ≡ 0 = omega arith in
     rw no
 
--- src/lib.rt:70:17
 add-total : tie.Need-add-total
 add-total c = search needs
 
--- src/lib.rt:72:9
 returns-2 : tie.Need-returns-2
 unfolding called
 returns-2 c =
@@ -34,15 +31,12 @@ returns-2 c =
     let none-counted : a .unconverted + a .converted ≡ 0 = omega arith in
     rw (yes, none-counted)
 
--- src/lib.rt:74:28
 numerator-requires : tie.Need-numerator-requires
 numerator-requires c κs = search needs
 
--- src/lib.rt:74:19
 ml-value-requires : tie.Need-ml-value-requires
 ml-value-requires c κs = search needs
 
--- src/lib.rt:64:1
 returns-3 : tie.Need-returns-3
 unfolding called
 returns-3 c =

@@ -1,4 +1,4 @@
--- `in_domain`: each length is held against the bound.
+-- `in_domain` compares each length with the bound.
 -- Assumes nothing.
 use native.Mathlib.Omega.{arith}
 use lib.ListN.{length}
@@ -8,17 +8,14 @@ use Rattle.strand.proofs.in_domain.Tie as tie
 use Rattle.strand.proofs.in_domain.Reads as reads
 use Rattle.strand.proofs.in_domain.Lts as lts
 
--- src/lib.rt:53:9
 returns : tie.Need-returns
 returns c = rw (lt-leb (length (c .before .args .seq .now)) 16000 (omega arith))
 
--- src/lib.rt:56:9
 returns-2 : tie.Need-returns-2
 returns-2 c =
     let a = c .before .before .args in
     rw (le-leb (length (a .seq .now)) 16000 (omega arith), lt-leb (length (a .informative .now)) 16000 (omega arith))
 
--- src/lib.rt:59:9
 returns-3 : tie.Need-returns-3
 returns-3 c =
     let a = c .before .before .before .args in
@@ -28,7 +25,6 @@ returns-3 c =
       lt-leb (length (a .unconverted .now)) 16000 (omega arith),
     )
 
--- src/lib.rt:44:1
 returns-4 : tie.Need-returns-4
 returns-4 c =
     let a = c .before .before .before .args in

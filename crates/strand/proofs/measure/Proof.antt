@@ -1,4 +1,4 @@
--- `measure`: nothing without a chemistry or a call, else the group's sizes.
+-- `measure`: nothing without a chemistry or a call, and otherwise the group's sizes.
 -- Assumes nothing.
 use mathlib.Core.Path.{_∙_, _≡_, refl, sym}
 use Prim.Native.Nat.{_<_}
@@ -20,11 +20,9 @@ use Rattle.strand.proofs.measure.Lts as lts
 use Rattle.pattern.proofs.MethylationMode.is_enabled.Reads as is-enabled-reads
 use Rattle.strand.proofs.put_group.Reads as put-group-reads
 
--- src/lib.rt:246:9
 is-enabled-requires : tie.Need-is-enabled-requires
 is-enabled-requires c κs = search needs
 
--- src/lib.rt:248:9
 returns : tie.Need-returns
 unfolding written textOf mlOf
 returns c =
@@ -33,19 +31,15 @@ returns c =
     let off : isEnabled (a .mode) ≡ false = sym (c .before .is-enabled .ensures) ∙ not-true (c .before .is-enabled .result) (c .if1 .taken) in
     rw (own-disabled (a .mode) (a .pattern) ev (a .seq .now) off) (refl, refl)
 
--- src/lib.rt:259:9
 slice-aggregate-put-group : tie.Need-slice-aggregate-put-group
 slice-aggregate-put-group c = search needs
 
--- src/lib.rt:260:9
 slice-aggregate-put-group-2 : tie.Need-slice-aggregate-put-group-2
 slice-aggregate-put-group-2 c = search needs
 
--- src/lib.rt:252:9
 put-group-requires : tie.Need-put-group-requires
 put-group-requires c κs = search needs
 
--- src/lib.rt:263:9
 returns-2 : tie.Need-returns-2
 unfolding textOf mlOf written
 returns-2 c =
@@ -55,7 +49,6 @@ returns-2 c =
     let no-value : length (written (strandGroup (a .mode) (a .pattern) ev (a .seq .now) ∷ []) .ml) ≡ 0 = omega (arith, put .ensures .1) in
     rw (own-silent (a .mode) (a .pattern) ev (a .seq .now) (no-values (a .mode) (a .pattern) ev (a .seq .now) no-value)) (refl, refl)
 
--- src/lib.rt:233:1
 returns-3 : tie.Need-returns-3
 returns-3 c =
     let a = c .before .before .before .before .before .before .before .before .before .before .before .before .before .args in

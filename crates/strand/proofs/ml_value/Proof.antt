@@ -1,4 +1,4 @@
--- `ml_value`: the floor, and 255 above it.
+-- `ml_value`: the floor of the scaled fraction, and at most 255.
 -- Assumes nothing.
 use Prim.Native.Nat.{_*_, _/_, _<_, _≤_}
 use native.Mathlib.Omega.{arith}
@@ -9,15 +9,12 @@ use Rattle.strand.proofs.ml_value.Tie as tie
 use Rattle.strand.proofs.ml_value.Reads as reads
 use Rattle.strand.proofs.ml_value.Lts as lts
 
--- src/lib.rt:56:18
 mul-scaled : tie.Need-mul-scaled
 mul-scaled c = search needs
 
--- src/lib.rt:56:18
 div-scaled : tie.Need-div-scaled
 div-scaled c = search needs
 
--- src/lib.rt:58:9
 returns : tie.Need-returns
 unfolding mlValue
 returns c =
@@ -25,11 +22,9 @@ returns c =
     let above : 255 < 256 * a .speaking / a .total = c .if1 .taken in
     omega arith
 
--- src/lib.rt:60:5
 cast-result : tie.Need-cast-result
 cast-result c = search needs
 
--- src/lib.rt:52:1
 returns-2 : tie.Need-returns-2
 unfolding mlValue
 returns-2 c =

@@ -1,4 +1,4 @@
--- `pass_place`: what the place gives is its spot, if it has one.
+-- `pass_place`: the place gives its spot, or nothing if it has none.
 -- Assumes nothing.
 use mathlib.Core.Path.{_∙_, _≡_, ap, refl, sym}
 use native.Mathlib.Numerals.{add-one}

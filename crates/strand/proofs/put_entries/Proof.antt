@@ -1,4 +1,4 @@
--- `put_entries`: what is written from the start is what is written so far and what the places from here on give.
+-- `put_entries`. Invariant: what is written so far, followed by what the remaining places give, is the whole result.
 -- Assumes nothing.
 use mathlib.Core.Path.{_∙_, _≡_, refl, sym}
 use Prim.Native.Nat.{_*_, _+_, _-_, _<_, _≤_, ℕ}
@@ -45,23 +45,18 @@ Inv-loop seq informative unconverted converted pattern mode at text₀ ml₀ pen
 abbrev μ-loop : tie.MeasureT-loop
 μ-loop seq informative unconverted converted pattern mode at text₀ ml₀ pen₀ place₀ text ml pen place = length seq - place
 
--- src/lib.rt:165:5
 loop-holds : tie.Need-loop-holds Inv-loop μ-loop
 loop-holds c = (omega arith, refl, refl, omega arith, omega arith, refl, omega arith, refl, refl)
 
--- src/lib.rt:166:9
 pass-place-requires : tie.Need-pass-place-requires Inv-loop μ-loop
 pass-place-requires c κs = omega arith
 
--- src/lib.rt:178:9
 add-place : tie.Need-add-place Inv-loop μ-loop
 add-place c = omega arith
 
--- src/lib.rt:165:5
 loop-less : tie.Need-loop-less Inv-loop μ-loop
 loop-less c = omega arith
 
--- src/lib.rt:165:5
 loop-again : tie.Need-loop-again Inv-loop μ-loop
 loop-again c =
     let a = c .before .before .before .before .before .before .before .before .before .before .before .before .before .before .before .args in
@@ -86,15 +81,12 @@ loop-again c =
       h .inv .8 ∙ values .1,
     )
 
--- src/lib.rt:140:1
 same-length : tie.Need-same-length Inv-loop μ-loop
 same-length c = omega arith
 
--- src/lib.rt:140:1
 same-length-2 : tie.Need-same-length-2 Inv-loop μ-loop
 same-length-2 c = omega arith
 
--- src/lib.rt:140:1
 returns : tie.Need-returns Inv-loop μ-loop
 returns c =
     let a = c .before .before .before .before .before .before .before .before .args in

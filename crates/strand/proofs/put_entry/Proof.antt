@@ -1,4 +1,4 @@
--- `put_entry`: a comma, the decimal after it, and one value.
+-- `put_entry` writes a comma, the decimal after it, and one value.
 -- Assumes nothing.
 use mathlib.Core.Path.{_∙_, _≡_, refl}
 use Prim.Native.Nat.{_+_}
@@ -16,35 +16,27 @@ use Rattle.strand.proofs.put_entry.Lts as lts
 use Rattle.numbers.proofs.put.Reads as put-reads
 use Rattle.numbers.proofs.put_decimal.Reads as put-decimal-reads
 
--- src/lib.rt:87:5
 put-requires : tie.Need-put-requires
 put-requires c κs = search needs
 
--- src/lib.rt:88:42
 add-put-decimal : tie.Need-add-put-decimal
 add-put-decimal c = search needs
 
--- src/lib.rt:88:9
 put-decimal-requires : tie.Need-put-decimal-requires
 put-decimal-requires c κs = search needs
 
--- src/lib.rt:89:5
 put-requires-2 : tie.Need-put-requires-2
 put-requires-2 c κs = search needs
 
--- src/lib.rt:93:17
 add-t14 : tie.Need-add-t14
 add-t14 c = search needs
 
--- src/lib.rt:78:1
 same-length : tie.Need-same-length
 same-length c = search needs
 
--- src/lib.rt:78:1
 same-length-2 : tie.Need-same-length-2
 same-length-2 c = search needs
 
--- src/lib.rt:78:1
 returns : tie.Need-returns
 returns c =
     let pen = c .before .before .before .before .before .before .before .before .before .before .before .before .before .before .args .pen in

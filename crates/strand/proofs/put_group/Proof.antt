@@ -1,4 +1,4 @@
--- `put_group`: header, entries and ';' one after the other are the strand's text.
+-- `put_group` writes the header, the entries and ';' one after the other, which make the strand's text.
 -- Assumes nothing.
 use mathlib.Core.Path.{_∙_, _≡_, ap, sym}
 use Prim.Native.Nat.{_+_, _≤_, ℕ}
@@ -22,7 +22,6 @@ use Rattle.strand.proofs.put_entries.Reads as put-entries-reads
 use Rattle.strand.proofs.put_header.Reads as put-header-reads
 use Rattle.numbers.proofs.put.Reads as put-reads
 
--- src/lib.rt:212:5
 -- how long the entries are at most
 short-entries : (c : tie.After-slice-known6) →
     let a = c .before .before .before .before .before .before .before .before .before .before .before .before .before .before .before .before .before .before .before .before .before .args in
@@ -37,28 +36,22 @@ short-entries c =
 put-header-requires : tie.Need-put-header-requires
 put-header-requires c κs = search needs
 
--- src/lib.rt:213:9
 put-entries-requires : tie.Need-put-entries-requires
 put-entries-requires c κs = search needs
 
--- src/lib.rt:225:5
 put-requires : tie.Need-put-requires
 put-requires c κs = search needs
 
--- src/lib.rt:227:15
 add-t20 : tie.Need-add-t20
 add-t20 c =
     omega (arith, short-entries c, c .before .before .before .before .before .before .before .before .put-entries .ensures .0)
 
--- src/lib.rt:194:1
 same-length : tie.Need-same-length
 same-length c = search needs
 
--- src/lib.rt:194:1
 same-length-2 : tie.Need-same-length-2
 same-length-2 c = search needs
 
--- src/lib.rt:194:1
 returns : tie.Need-returns
 returns c =
     let a = c .before .before .before .before .before .before .before .before .before .before .before .before .before .before .before .before .before .before .before .before .before .args in

@@ -1,4 +1,4 @@
--- `put_header`: its four bytes, stored one by one.
+-- `put_header` stores its four bytes one by one.
 -- Assumes nothing.
 use mathlib.Core.Path.{_∙_, _≡_, ap}
 use Prim.Native.Nat.{ℕ}
@@ -14,35 +14,27 @@ use Rattle.pattern.proofs.ConversionPattern.letter.Reads as letter-reads
 use Rattle.pattern.proofs.ConversionPattern.sign.Reads as sign-reads
 use Rattle.numbers.proofs.put.Reads as put-reads
 
--- src/lib.rt:187:27
 letter-requires : tie.Need-letter-requires
 letter-requires c κs = search needs
 
--- src/lib.rt:187:5
 put-requires : tie.Need-put-requires
 put-requires c κs = search needs
 
--- src/lib.rt:188:27
 sign-requires : tie.Need-sign-requires
 sign-requires c κs = search needs
 
--- src/lib.rt:188:5
 put-requires-2 : tie.Need-put-requires-2
 put-requires-2 c κs = search needs
 
--- src/lib.rt:189:5
 put-requires-3 : tie.Need-put-requires-3
 put-requires-3 c κs = search needs
 
--- src/lib.rt:190:5
 put-requires-4 : tie.Need-put-requires-4
 put-requires-4 c κs = search needs
 
--- src/lib.rt:184:1
 same-length : tie.Need-same-length
 same-length c = search needs
 
--- src/lib.rt:184:1
 returns : tie.Need-returns
 returns c =
     let a = c .before .before .before .before .before .before .before .before .before .before .before .before .before .before .before .before .before .before .before .args in

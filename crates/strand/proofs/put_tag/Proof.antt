@@ -1,4 +1,4 @@
--- `put_tag`: with a call it is the group, without one nothing.
+-- `put_tag` writes the group if there is a call, and nothing otherwise.
 -- Assumes nothing.
 use mathlib.Core.Path.{_≡_, refl}
 use Prim.Native.Nat.{_<_}
@@ -14,19 +14,15 @@ use Rattle.strand.proofs.put_tag.Reads as reads
 use Rattle.strand.proofs.put_tag.Lts as lts
 use Rattle.strand.proofs.put_group.Reads as put-group-reads
 
--- src/lib.rt:288:9
 put-group-requires : tie.Need-put-group-requires
 put-group-requires c κs = search needs
 
--- src/lib.rt:269:1
 same-length : tie.Need-same-length
 same-length c = search needs
 
--- src/lib.rt:269:1
 same-length-2 : tie.Need-same-length-2
 same-length-2 c = search needs
 
--- src/lib.rt:269:1
 returns : tie.Need-returns
 returns c =
     let a = c .before .before .before .before .before .before .before .before .before .before .before .before .before .before .args in
@@ -35,7 +31,6 @@ returns c =
     let some-call : 0 < length (ownTag (a .mode) (a .pattern) ev (a .seq .now) .ml) = omega arith in
     rw (own-full (a .mode) (a .pattern) ev (a .seq .now) some-call) (put .ensures .2, put .ensures .3)
 
--- src/lib.rt:269:1
 returns-2 : tie.Need-returns-2
 unfolding textOf mlOf written
 returns-2 c =

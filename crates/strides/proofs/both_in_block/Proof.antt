@@ -1,4 +1,4 @@
--- `both_in_block`: one place after the other.
+-- `both_in_block` looks at one place after the other.
 -- Assumes nothing.
 use mathlib.Core.Path.{_∙_, _≡_, ap, refl}
 use Prim.Native.Nat.{_+_, _-_, _≤_, ℕ}

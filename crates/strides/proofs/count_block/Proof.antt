@@ -1,4 +1,4 @@
--- `count_block`: one byte after the other.
+-- `count_block` looks at one byte after the other.
 -- Assumes nothing.
 use mathlib.Core.Path.{_∙_, _≡_, ap, refl}
 use Prim.Native.Nat.{_+_, _-_, _≤_, ℕ}

@@ -1,4 +1,4 @@
--- `held_in_block`: all in SEQ itself; else none before the window and none behind it, and in it those that both rows hold.
+-- `held_in_block`: all bases if the window is SEQ itself. Otherwise none before or behind the window, and inside it those that both rows hold.
 -- Assumes nothing.
 use mathlib.Core.Path.{_∙_, _≡_, sym}
 use mathlib.Core.Logic.{_⊎_, ⊎-elim}

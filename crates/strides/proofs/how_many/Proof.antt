@@ -1,4 +1,4 @@
--- `how_many`: block by block, and what is left.
+-- `how_many` counts block by block, and then what is left.
 -- Assumes nothing.
 use mathlib.Core.Path.{_∙_, _≡_, ap, refl, sym}
 use Prim.Native.Nat.{_+_, _-_, _≤_, ℕ}

@@ -1,4 +1,4 @@
--- `is_far`: a yes says that there is a block.
+-- `is_far`: yes means that there is a whole block.
 -- Assumes nothing.
 use mathlib.Core.Path.{_≡_}
 use mathlib.Core.Bool.{Bool, false, true}

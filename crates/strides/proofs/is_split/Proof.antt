@@ -1,4 +1,4 @@
--- `is_split`: a no says that the block lies before the window, in it, or behind it, or that the window is SEQ itself.
+-- `is_split`: no means that the block lies before the window, in it, or behind it, or that the window is SEQ itself.
 -- Assumes nothing.
 use mathlib.Core.Path.{_≡_}
 use mathlib.Core.Bool.{Bool, false}

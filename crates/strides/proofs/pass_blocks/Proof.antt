@@ -1,4 +1,4 @@
--- `pass_blocks`: what was passed and what of it is held, block by block.
+-- `pass_blocks` counts the bases that are passed, and those of them that are still held, block by block.
 -- Assumes nothing.
 use mathlib.Core.Path.{_∙_, _≡_, ap, refl, sym}
 use Prim.Native.Nat.{_+_, _-_, _≤_, ℕ}

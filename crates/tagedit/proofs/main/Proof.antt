@@ -1,4 +1,4 @@
--- `main`: what the transcript says fits the row that is lent for it.
+-- `main`: the transcript fits the row that is lent for it.
 -- Assumes nothing.
 use mathlib.Core.Path.{_≡_}
 use mathlib.Core.List.{List}
@@ -20,39 +20,30 @@ use Rattle.transcript.proofs.transcript.Reads as transcript-reads
 fits : (input : List ℕ) {n : ℕ} → n ≡ length (transcriptOf input) → n ≤ 81925
 fits input e = omega (arith, e, room input)
 
--- src/main.rt:24:21
 input-row-requires : tie.Need-input-row-requires
 input-row-requires c κs = search needs
 
--- src/main.rt:25:41
 slice-aggregate-read-full : tie.Need-slice-aggregate-read-full
 slice-aggregate-read-full c = search needs
 
--- src/main.rt:25:9
 read-full-requires : tie.Need-read-full-requires
 read-full-requires c κs = search needs
 
--- src/main.rt:30:39
 sub-transcript : tie.Need-sub-transcript
 sub-transcript c = search needs
 
--- src/main.rt:30:39
 part-transcript-start : tie.Need-part-transcript-start
 part-transcript-start c = search needs
 
--- src/main.rt:30:39
 part-transcript-end : tie.Need-part-transcript-end
 part-transcript-end c = search needs
 
--- src/main.rt:30:9
 transcript-requires : tie.Need-transcript-requires
 transcript-requires c κs = search needs
 
--- src/main.rt:31:5
 print-front-requires : tie.Need-print-front-requires
 print-front-requires c κs = fits _ (c .before .transcript .ensures .0)
 
--- src/main.rt:23:1
 returns : tie.Need-returns
 returns c = search needs
 

@@ -1,4 +1,4 @@
--- `written`: the number is stored where the call was done, and a refusal is passed on.
+-- `written` stores the number if the call was done, and passes on a refusal.
 -- Assumes nothing.
 use mathlib.Core.Path.{_≡_, ap, refl}
 use borrow.Author.Needs.{needs}

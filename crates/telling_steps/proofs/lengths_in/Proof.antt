@@ -1,4 +1,4 @@
--- `lengths_in`: each length from its entry.
+-- `lengths_in` takes each length from its entry.
 -- Assumes nothing.
 use mathlib.Core.Path.{refl}
 use borrow.Author.Needs.{needs}

@@ -1,4 +1,4 @@
--- `stepped`: the array is written whole where the step was done.
+-- `stepped` writes the whole array if the step was done.
 -- Assumes nothing.
 use mathlib.Core.Path.{ap, sym}
 use borrow.Author.Needs.{needs}

@@ -1,4 +1,4 @@
--- `joined`: the array is written whole where the call was done.
+-- `joined` writes the whole array if the call was done.
 -- Assumes nothing.
 use mathlib.Core.Path.{_≡_, ap, refl}
 use borrow.Author.Needs.{needs}

@@ -1,4 +1,4 @@
--- `from_first`: a line that is marked SQ, or 13.
+-- `from_first` takes a line that is marked SQ, and answers 13 otherwise.
 -- Assumes nothing.
 use mathlib.Core.Path.{_∙_, _≡_, ap, subst, sym}
 use Prim.Native.Nat.{_+_, _≤_, ℕ}

@@ -1,4 +1,4 @@
--- `from_second`: a line that is marked MM, or 13.
+-- `from_second` takes a line that is marked MM, and answers 13 otherwise.
 -- Assumes nothing.
 use mathlib.Core.Path.{_∙_, _≡_, ap, subst, sym}
 use Prim.Native.Nat.{_+_, _≤_}

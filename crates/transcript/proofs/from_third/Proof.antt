@@ -1,4 +1,4 @@
--- `from_third`: no ML, an ML that is bad, or an ML whose values are put on the desk.
+-- `from_third`, by cases: no ML, a bad ML, or an ML whose values are put on the desk.
 -- Assumes nothing.
 use mathlib.Core.Path.{_∙_, _≡_, ap, subst, sym}
 use Prim.Native.Nat.{_+_, _≤_, ℕ}
@@ -73,7 +73,7 @@ body-short k =
       within (k .before .before .before),
     )
 
--- the values that were read stand on the desk
+-- the values that were read are on the desk
 record Laid (k : tie.After-read) : Type 0 where
   said : fromThird (values-at k .args .bases .now) (values-at k .args .text .now)
       (linesOf (drop (values-at k .args .place) (values-at k .args .input .now)))

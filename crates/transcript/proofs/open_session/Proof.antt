@@ -1,4 +1,4 @@
--- `open_session`: the opening answered, the desk laid, and the lines that follow.
+-- `open_session` answers the opening, lays the desk, and answers the lines that follow.
 -- Assumes nothing.
 use mathlib.Core.Path.{_∙_, _≡_, ap, refl, sym}
 use Prim.Native.Nat.{_+_, ℕ}

@@ -1,4 +1,4 @@
--- `transcript`: 1 for an input that is too long, else what is said from its first line on; and it has room.
+-- `transcript` answers 1 for an input that is too long, and otherwise as `from_first` does. The output fits its row.
 -- Assumes nothing.
 use mathlib.Core.Path.{ap}
 use Prim.Native.Nat.{_≤_}

@@ -1,4 +1,4 @@
--- `moved`: backward the place falls, forward it rises.
+-- `moved`: backward the place falls, and forward it rises.
 -- Assumes nothing.
 use mathlib.Core.Bool.{true, false}
 use native.Mathlib.Omega.{arith}

@@ -1,4 +1,4 @@
--- `outset`: the start, and behind the end the start and all places.
+-- `outset`: forward the start, and backward the start plus the number of all places.
 -- Assumes nothing.
 use borrow.Author.Needs.{needs}
 use Rattle.walking.proofs.outset.Statement.{statement}

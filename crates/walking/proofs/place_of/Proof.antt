@@ -1,4 +1,4 @@
--- `place_of`: backward from the place behind, forward from the place itself.
+-- `place_of`: backward it counts down from the place behind, and forward it counts up from the place itself.
 -- Assumes nothing.
 use mathlib.Core.Path.{_≡_, ap, _∙_}
 use mathlib.Core.Bool.{true, false}

@@ -1,4 +1,4 @@
--- `put_missing` stores -1 again and again. The invariant: the row holds as many missing places as there were turns, over what was lent.
+-- `put_missing` stores -1 again and again. Invariant: the front of the row holds one missing place for each turn so far, and the rest is unchanged.
 -- Assumes nothing.
 use mathlib.Core.Path.{_≡_, refl}
 use Prim.Native.Nat.{_-_, _≤_}

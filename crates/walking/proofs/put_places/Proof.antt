@@ -1,4 +1,4 @@
--- `put_places` stores one place after the other. The invariant: the row holds the places so far over what was lent.
+-- `put_places` stores one place after the other. Invariant: the front of the row holds the places so far, and the rest is unchanged.
 -- Assumes nothing.
 use mathlib.Core.Path.{_≡_, refl}
 use Prim.Native.Nat.{_+_, _-_, _≤_}

@@ -1,4 +1,4 @@
--- `walk` goes from operation to operation. The invariant is `Come`, of the operations in the walk's order.
+-- `walk` goes from operation to operation, in the walk's order. The invariant is `Come`.
 -- Assumes nothing.
 use mathlib.Core.Path.{refl, ap, _∙_}
 use Prim.Native.Nat.{ℕ, _+_, _-_, _≤_, _<_}

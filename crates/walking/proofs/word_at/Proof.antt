@@ -1,4 +1,4 @@
--- `word_at`: backward the words count from the last.
+-- `word_at`: backward the words are counted from the last.
 -- Assumes nothing.
 use mathlib.Core.Path.{sym}
 use native.Mathlib.Omega.{arith}

@@ -1,4 +1,4 @@
--- `lies_in`: what is left lies where it should where all of it does.
+-- `lies_in`. Invariant: `after` lies in SEQ exactly when the flag is set and the remaining bytes lie there too.
 -- Assumes nothing.
 use mathlib.Core.Path.{_∙_, _≡_, ap, sym}
 use Prim.Native.Nat.{_+_, _-_, _≤_, ℕ}

@@ -1,4 +1,4 @@
--- `same_block`: one byte after the other.
+-- `same_block` compares one byte after the other.
 -- Assumes nothing.
 use mathlib.Core.Path.{_∙_, _≡_, ap, refl, sym}
 use Prim.Native.Nat.{_+_, _-_, _≤_, ℕ}

@@ -1,4 +1,4 @@
--- `same_bytes`: rows of different lengths differ; else those that are left are the same where all are.
+-- `same_bytes`: rows of different lengths differ. Otherwise the blocks so far are the same, and the remaining bytes decide.
 -- Assumes nothing.
 use mathlib.Core.Path.{_∙_, _≡_, ap, refl, sym}
 use Prim.Native.Nat.{_+_, _-_, _≤_}

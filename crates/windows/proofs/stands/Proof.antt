@@ -1,4 +1,4 @@
--- `stands`: the byte that stood there, or one of the two that mask.
+-- `stands`: the byte is the one that was there, or one of the two that mask.
 -- Assumes nothing.
 use native.Mathlib.Omega.{arith}
 use borrow.Author.Tests.{eq-eqb, ne-eqb}

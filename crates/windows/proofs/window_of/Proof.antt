@@ -1,4 +1,4 @@
--- `window_of`: the flag is set only where nothing is cut off and the rows are one.
+-- `window_of` sets the flag only if nothing is cut off and the two rows are the same.
 -- Assumes nothing.
 use mathlib.Core.Path.{_∙_, _≡_, refl, sym}
 use Prim.Native.Nat.{ℕ}

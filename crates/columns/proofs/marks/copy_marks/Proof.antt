@@ -1,4 +1,4 @@
--- `copy_marks`: the front of the row is the marks that were passed, as they are written, the rest as lent.
+-- `copy_marks`. Invariant: the front of the row holds the marks so far, yes written as 1, and the rest is unchanged.
 -- Assumes nothing.
 use mathlib.Core.Path.{_≡_, refl}
 use mathlib.Core.List.{map}

@@ -1,4 +1,4 @@
--- `mark`: the positions that were passed are marked, the others not, and beyond the reference row that is right.
+-- `mark`. Invariant: the positions so far have their marks, and the others have none. Positions beyond the reference row need none.
 -- Assumes nothing.
 use mathlib.Core.Path.{_≡_, refl, _∙_}
 use Prim.Native.Nat.{ℕ, _≤_, _-_, min}

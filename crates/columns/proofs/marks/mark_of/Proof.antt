@@ -1,4 +1,4 @@
--- `mark_of`: the base decides, in any case.
+-- `mark_of`: the base decides, in upper or lower case.
 -- Assumes nothing.
 use borrow.Author.Needs.{needs}
 use Rattle.columns.proofs.marks.mark_of.Statement.{statement}

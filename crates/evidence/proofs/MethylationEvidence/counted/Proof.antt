@@ -1,4 +1,4 @@
--- `counted` counts the base, in any case, as the unconverted one, as the converted one, or as neither.
+-- `counted` counts the base, in upper or lower case, as the unconverted one, as the converted one, or as neither.
 -- Assumes nothing.
 use mathlib.Core.Path.{_≡_, sym, _∙_}
 use mathlib.Core.Bool.{true, false}

@@ -1,4 +1,4 @@
--- `gated` gives the evidence as it is where the position is informative, and none elsewhere.
+-- `gated` returns the evidence unchanged if the position is informative, and evidence without counts otherwise.
 -- Assumes nothing.
 use mathlib.Core.Path.{_≡_}
 use mathlib.Core.Bool.{true}

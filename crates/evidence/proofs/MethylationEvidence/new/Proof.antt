@@ -1,4 +1,4 @@
--- `new` counts nothing.
+-- `new` starts with both counts at 0.
 -- Assumes nothing.
 use mathlib.Core.Path.{refl}
 use Rattle.evidence.proofs.MethylationEvidence.new.Statement.{statement}

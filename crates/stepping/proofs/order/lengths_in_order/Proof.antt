@@ -1,4 +1,4 @@
--- `lengths_in_order`: 1 by each length in turn, then 2 by each.
+-- `lengths_in_order` checks each length in turn for 1, and then each of them for 2.
 -- Assumes nothing.
 use native.Mathlib.Omega.{arith}
 use mathlib.Core.Bool.{cond}

@@ -1,4 +1,4 @@
--- `edit_front`: the front of each row is lent on, edited in place, and comes back.
+-- `edit_front` lends on the front of each row, which is edited in place and comes back.
 -- Assumes nothing.
 use mathlib.Core.Path.{_≡_}
 use Prim.Native.Nat.{_-_, _≤_, ℕ}

@@ -1,4 +1,4 @@
--- `aql_evidence_counted`: one base more, for C.
+-- `aql_evidence_counted`: one more base counted, for C.
 -- Assumes nothing.
 use mathlib.Core.Path.{_≡_, _∙_, ap}
 use mathlib.Core.Bool.{false}

@@ -1,4 +1,4 @@
--- `aql_eq_ignore_ascii_case`: equality in any case, for C.
+-- `aql_eq_ignore_ascii_case`: equality that ignores case, for C.
 -- Assumes nothing.
 use Rattle.taglib.proofs.Yes.{yes-told}
 use borrow.Author.Needs.{needs}

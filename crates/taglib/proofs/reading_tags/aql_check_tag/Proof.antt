@@ -1,4 +1,4 @@
--- `aql_check_tag`: the answer handed on.
+-- `aql_check_tag` hands on the answer.
 -- Assumes nothing.
 use borrow.Author.Needs.{needs}
 use Rattle.samtags.specs.Reading.{readTag}

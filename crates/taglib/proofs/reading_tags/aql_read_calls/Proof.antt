@@ -1,4 +1,4 @@
--- `aql_read_calls`: the answer handed on; the columns are as the call left them.
+-- `aql_read_calls` hands on the answer; the columns are as the call left them.
 -- Assumes nothing.
 use borrow.Author.Needs.{needs}
 use Rattle.telling.specs.Told.{yes}

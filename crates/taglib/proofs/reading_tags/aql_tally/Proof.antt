@@ -1,4 +1,4 @@
--- `aql_tally`: the answer handed on.
+-- `aql_tally` hands on the answer.
 -- Assumes nothing.
 use borrow.Author.Needs.{needs}
 use Rattle.samtags.specs.Reading.{tallyTag}

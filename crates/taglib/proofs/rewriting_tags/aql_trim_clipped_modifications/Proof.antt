@@ -1,4 +1,4 @@
--- `aql_trim_clipped_modifications`: the answer handed on; the rows are as the call left them, with the start as it was given.
+-- `aql_trim_clipped_modifications` passes the given start to the call and hands on the answer; the rows are as the call left them.
 -- Assumes nothing.
 use borrow.Author.Needs.{needs}
 use Rattle.telling.specs.Starts.{givenStart}

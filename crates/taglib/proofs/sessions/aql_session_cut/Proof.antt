@@ -1,4 +1,4 @@
--- `aql_session_cut`: the lengths from the array and back, and the answer handed on.
+-- `aql_session_cut` takes the lengths from the array, writes the new ones back, and hands on the answer.
 -- Assumes nothing.
 use borrow.Author.Needs.{needs}
 use Rattle.samtags.specs.Session.{cut}

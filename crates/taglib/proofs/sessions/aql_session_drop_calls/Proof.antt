@@ -1,4 +1,4 @@
--- `aql_session_drop_calls`: the lengths from the array and back, and the answer handed on; SEQ is only read.
+-- `aql_session_drop_calls` takes the lengths from the array, writes the new ones back, and hands on the answer. SEQ is only read.
 -- Assumes nothing.
 use borrow.Author.Needs.{needs}
 use Rattle.samtags.specs.Session.{dropCalls}

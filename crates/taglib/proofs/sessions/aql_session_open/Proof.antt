@@ -1,4 +1,4 @@
--- `aql_session_open`: the lengths from the array, and the answer handed on.
+-- `aql_session_open` takes the lengths from the array, and hands on the answer.
 -- Assumes nothing.
 use borrow.Author.Needs.{needs}
 use Rattle.telling.specs.Told.{yes}

@@ -1,4 +1,4 @@
--- `counted`: what each case tells.
+-- `counted`, by cases of the answer.
 -- Assumes nothing.
 use mathlib.Core.Path.{ap, sym}
 use borrow.Author.Needs.{needs}

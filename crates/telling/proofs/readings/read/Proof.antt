@@ -1,4 +1,4 @@
--- `read`: what each case tells.
+-- `read`, by cases of the answer.
 -- Assumes nothing.
 use Prim.Native.Nat.{ℕ}
 use mathlib.Core.Path.{ap, sym}

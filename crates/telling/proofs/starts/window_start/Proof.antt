@@ -1,4 +1,4 @@
--- `window_start`: known for every byte but 0.
+-- `window_start`: the start is known for every byte but 0.
 -- Assumes nothing.
 use native.Mathlib.Omega.{arith}
 use borrow.Author.Tests.{eq-eqb, ne-eqb}

@@ -1,4 +1,4 @@
--- `tagged`: what each case tells.
+-- `tagged`, by cases of the answer.
 -- Assumes nothing.
 use Prim.Native.Nat.{ℕ}
 use mathlib.Core.Path.{ap, sym}
