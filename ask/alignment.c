@@ -1,7 +1,7 @@
 /* Q, CPG, PAT and FETCH: places on the reference, its bases, and the pattern of a read. */
 #include "calls.h"
 
-/* As many bases as the words stand for, if every one of them had a base: no answer has more. */
+/* The number of bases if every operation took bases: no answer has more. */
 static size_t most_bases(const struct row *words)
 {
     size_t i, total = 0;

@@ -1,13 +1,13 @@
 /* BUILD, BUILDMM and DUP: tags from a consensus and its evidence. */
 #include "calls.h"
 
-/* A header, a comma and five digits for each call, and the semicolon: no strand's text is longer. */
+/* A bound on the length of a strand's text: a header, a comma and five digits for each call, and the semicolon. */
 static size_t longest_text(size_t bases)
 {
     return 5 + 6 * bases;
 }
 
-/* What a strand's tag is built from, beside the consensus. */
+/* What a strand's tag is built from, apart from the consensus. */
 struct strand {
     uint16_t flags;
     struct columns columns;
@@ -52,7 +52,7 @@ void ask_buildmm(struct request *q)
 
 /* ---- DUP */
 
-/* A strand that a record lacks: nothing of it may be looked at. */
+/* A strand that the record does not have: the call may not look at any of its rows. */
 static struct strand no_strand(void)
 {
     struct strand s;

@@ -1,4 +1,4 @@
-/* What the harness takes of C, declared here since the kit's compiler comes without headers. The values are those of Linux on x86-64. */
+/* What the harness uses of C. It is declared here since the kit's compiler comes without headers. The values are those of Linux on x86-64. */
 #ifndef ASK_C_H
 #define ASK_C_H
 

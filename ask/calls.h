@@ -4,7 +4,7 @@
 
 #include "request.h"
 
-/* The evidence of a consensus in three columns, which stand in three fields; and as the arguments that a call takes for it. */
+/* The evidence of a consensus: three columns, read from three fields; and the arguments that a call takes for it. */
 struct columns {
     struct row *informative, *unconverted, *converted;
 };

@@ -72,7 +72,7 @@ void ask_trunc(struct request *q)
         put_columns(kept, written(n, 0));
 }
 
-/* CNT pattern inf unc con: two calls, which refuse alike. */
+/* CNT pattern inf unc con: two calls, which must answer the same number. */
 void ask_cnt(struct request *q)
 {
     struct columns c = read_columns(q, 1);

@@ -1,13 +1,13 @@
 #!/usr/bin/env python3
-"""Puts faults into copies of the header and of the harness, one at a time, and asks whether each is noticed.
+"""Puts faults into copies of the header and of the harness, one at a time, and checks that each is noticed.
 
     python3 ask/faults.py
 
-A fault of the header is what a lab would be misled by; a fault of the harness stands for a library that writes or reads outside
-a row, or writes where it refuses. Each is a change of a file's text that must apply exactly once. It is noticed by
-tools/check-header, by a frozen answer in one of four turns, by the program `exports`, or, where it is the header's, by the compiler.
-A copy without a fault must pass all of these. Last, a fault in what is built from long evidence must be found by the load, where the
-Rust is at hand, and shrunk. Ends with `N faults, N noticed`; the status is 1 where one is not noticed.
+A fault of the header would mislead a lab. A fault of the harness stands for a library that reads or writes outside a row, or writes
+although it refuses. Each fault is a change of a file's text that must apply exactly once. It is noticed by tools/check-header, by a
+frozen answer in one of four turns, by the program `exports`, or, for a fault of the header, by the compiler. A copy without a fault
+must pass all of these. Last, a fault in what is built from long evidence must be found by the load and shrunk, if the Rust is at
+hand. The last line is `N faults, N noticed`. The status is 1 if a fault is not noticed.
 """
 import argparse
 import concurrent.futures
@@ -31,7 +31,7 @@ HEADER = "include/aquiledru.h"
 TURNS = range(4)
 COMPILER = "the compiler"
 
-# Name, file, the words in it, the words put in their place.
+# The name of the fault, the file, the words to replace, and their replacement.
 FAULTS = [
     ("the header lacks a parameter", HEADER,
      "const uint8_t *ml, size_t ml_len,\n                  size_t *above",
@@ -92,7 +92,7 @@ FAULTS = [
 ]
 
 
-# Only a request whose tag has four calls shows it; a shrunk one has hardly more.
+# Only a request whose tag has four calls or more shows this fault; a shrunk request has hardly more than four.
 LONG_FAULT = ("the fourth value of ML is wrong", "ask/building.c",
               "    put_bytes(ml, written(ml_len, 0));\n    }\n",
               "    if (as_size(ml_len)[0] > 3)\n            as_u8(ml)[3] ^= 1;\n        put_bytes(ml, written(ml_len, 0));\n    }\n")
@@ -115,7 +115,7 @@ def put_in(work, name, file, old, new):
 
 
 def ran(work, *words):
-    """Whether a command ends well; the copy's header stands for the project's."""
+    """Whether a command ends with status 0. It uses the header of the copy instead of the project's."""
     environment = {**os.environ, "AQUILEDRU_H": os.path.join(work, "include")}
     return subprocess.run(words, cwd=work, env=environment, stdout=subprocess.DEVNULL, stderr=subprocess.DEVNULL, check=False).returncode == 0
 
@@ -126,7 +126,7 @@ def built(work, program, *patterns):
 
 
 def noticed(command, work):
-    """Where the fault of a copy is noticed, in words."""
+    """The checks that notice the fault of a copy, in words."""
     if not ran(work, sys.executable, os.path.join(ROOT, "tools", "check-header"), os.path.join(work, "include")):
         yield "check-header"
     if not built(work, "asked", "ask/*.c"):
@@ -144,7 +144,7 @@ def noticed(command, work):
 
 
 def tried(command, fault):
-    """Where a fault is noticed. A fault of the harness that does not compile was never tried."""
+    """The checks that notice a fault. A fault of the harness must compile, or it was never tried."""
     with tempfile.TemporaryDirectory() as work:
         copied(work)
         put_in(work, *fault)
@@ -155,14 +155,14 @@ def tried(command, fault):
 
 
 def without_fault(command):
-    """Where a copy without a fault is noticed: nowhere, or what is noticed below says nothing."""
+    """The checks that notice a copy without a fault. There must be none, or the other results mean nothing."""
     with tempfile.TemporaryDirectory() as work:
         copied(work)
         return list(noticed(command, work))
 
 
 def loaded(command):
-    """Whether the load finds a fault and shrinks the request that shows it; None where there is no Rust to load with."""
+    """Whether the load finds a fault and shrinks the request that shows it; None if the Rust is not at hand."""
     if judge.rust.missing():
         return None
     with tempfile.TemporaryDirectory() as work:

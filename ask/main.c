@@ -1,17 +1,17 @@
-/* `ask`: answers requests on standard input, one a line, through the C library's archive, so that what labs link can be held against the Rust, a
- * model, or anybody's own cases. oracle/README.md describes the requests; tools/ask builds and starts it.
+/* `ask`: answers requests on standard input, one on each line, through the C library's archive. So the library that labs link can be compared with the
+ * Rust, with a model, or with anybody's own cases. oracle/README.md describes the requests; tools/ask builds and starts the program.
  *
  * A new request is a function in its family's file, its name in calls.h and a line of the table below; for the load also a line of oracle/src/form.rs.
  *
- * An argument is the number of the first turn: it decides where the untouchable page stands (rows.h), which rows without entries are NULL, and the
- * bits that a call must not look at. Each request is one turn. The run ends with status 70 where a call touches that page.
+ * Each request is one turn. An argument gives the number of the first turn. The turn's number decides where the untouchable page is (rows.h), which rows
+ * without entries are NULL, and the bits that a call must ignore. The run ends with status 70 if a call touches that page.
  */
 #include "calls.h"
 
 struct call {
     const char *name;
     size_t least, most; /* fields */
-    size_t rooms;       /* numbers of room that a request may lend */
+    size_t rooms;       /* how many numbers of room a request may give */
     void (*ask)(struct request *q);
 };
 
@@ -25,7 +25,7 @@ static const struct call calls[] = {
 
 /* ---- One request */
 
-/* Takes a line apart at its tabs; the first part is the name. */
+/* Splits a line at its tabs; the first part is the name. */
 static void split(const uint8_t *line, size_t n, struct field *name, struct request *q)
 {
     size_t from = 0, to, part;
@@ -54,7 +54,7 @@ static const struct call *call_of(struct field name)
     return NULL;
 }
 
-/* Takes the room off the end of the fields, where the request lends any. */
+/* Takes the room off the end of the fields, if the request gives any. */
 static void read_rooms(struct request *q, size_t rooms)
 {
     struct row *lent;
@@ -100,13 +100,13 @@ static void respond(const uint8_t *line, size_t n, uint64_t turn)
 
 /* ---- All lines */
 
-/* The longest line that is taken, and its end. */
+/* The length of the longest line that is accepted, with its end. */
 #define INPUT 1048576u
 
 static uint8_t input[INPUT];
 static uint64_t turns;
 
-/* Answers each line that ends within the first `filled` bytes, and gives where the line that does not begins. */
+/* Answers each line that ends within the first `filled` bytes. Returns the start of the line that does not end there. */
 static size_t respond_to_all(size_t filled)
 {
     size_t from = 0, to;
@@ -127,7 +127,7 @@ static size_t to_front(size_t from, size_t filled)
     return filled - from;
 }
 
-/* Where the first line ends, or `filled` where it goes on. */
+/* The end of the first line, or `filled` if the line goes on. */
 static size_t line_end(size_t filled)
 {
     size_t i = 0;
@@ -136,11 +136,11 @@ static size_t line_end(size_t filled)
     return i;
 }
 
-/* Answers before each wait for more input, so that whoever asks one request at a time gets its answer. */
+/* Writes the answers before each wait for more input, so that a caller who asks one request at a time gets its answer. */
 static void serve(void)
 {
     size_t filled = 0;
-    int passing = 0; /* inside a line that was too long and has its answer */
+    int passing = 0; /* inside a line that was too long and is already answered */
     long n;
     while (reply_flush(), (n = read(STANDARD_INPUT, input + filled, INPUT - filled)) > 0) {
         filled += (size_t)n;
@@ -168,7 +168,7 @@ static void on_touch(int number)
     stop("ask: the next request's call touched a byte outside its rows");
 }
 
-/* Reads the number of the first turn; gives whether the word is one. */
+/* Reads the number of the first turn. Returns whether the word is a number. */
 static int first_turn(const char *word)
 {
     size_t i;

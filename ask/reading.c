@@ -1,7 +1,7 @@
 /* CALLS and TALLY: what a tag says. */
 #include "calls.h"
 
-/* How many values of ML call i of n has: up to where those of the next call start. */
+/* The number of ML values of call i of n: from its start up to the start of the next call. */
 static size_t values_of(const uint32_t *starts, size_t i, size_t n, size_t ml)
 {
     return (i + 1 < n ? starts[i + 1] : ml) - starts[i];
@@ -12,7 +12,7 @@ void ask_calls(struct request *q)
 {
     uint8_t has_ml;
     struct row *mm = read_bytes(q, 0, BYTES), *ml = read_ml(q, 1, &has_ml), *seq = read_bytes(q, 2, BASES);
-    /* An entry has two bytes at least, so that no tag lists more calls than its text has bytes. */
+    /* An entry has at least two bytes, so no tag lists more calls than its text has bytes. */
     struct row *groups = output(q, sizeof(uint32_t), 0, mm->n);
     struct row *places = output(q, sizeof(uint32_t), 0, mm->n);
     struct row *starts = output(q, sizeof(uint32_t), 0, mm->n);
@@ -43,7 +43,7 @@ void ask_calls(struct request *q)
     }
 }
 
-/* TALLY mm ml seq: it always takes an ML. */
+/* TALLY mm ml seq: ML is always given. */
 void ask_tally(struct request *q)
 {
     struct row *mm = read_bytes(q, 0, BYTES), *ml = read_bytes(q, 1, BYTES), *seq = read_bytes(q, 2, BASES);

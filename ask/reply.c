@@ -1,9 +1,9 @@
-/* The line that answers a request, and where it goes. */
+/* Makes the line that answers a request, and writes it out. */
 #include "reply.h"
 #include "aquiledru.h"
 
 #define LINES (8u << 20)
-/* More than the longest answer takes. */
+/* More than the longest answer needs. */
 #define LONGEST_LINE (4u << 20)
 
 static char lines[LINES];

@@ -1,4 +1,4 @@
-/* The form of a request's fields, read into rows; request.h says what each is. */
+/* Reads the fields of a request into rows; request.h says what each function reads. */
 #include "request.h"
 
 static struct field field_of(struct request *q, size_t k)
@@ -17,7 +17,7 @@ int field_is(const struct request *q, size_t k, char character)
 
 /* ---- Numbers */
 
-/* A plain decimal up to the largest, any number of leading zeros. */
+/* Reads a plain decimal of at most `largest`, with any number of leading zeros. */
 static int decimal(struct field f, uint64_t largest, uint64_t *value)
 {
     size_t i;
@@ -73,7 +73,7 @@ uint8_t read_yes(struct request *q, size_t k)
     return 0;
 }
 
-/* Bits that say nothing to a call, other ones in each turn. */
+/* Bits that a call must ignore; they differ from turn to turn. */
 static uint16_t other_bits(void)
 {
     return (uint16_t)(rows_turn() * 40503u);
@@ -108,7 +108,7 @@ static int nibble(uint8_t character)
     return 'a' <= character && character <= 'f' ? character - 'a' + 10 : -1;
 }
 
-/* How many bytes the hex of a field stands for. */
+/* The number of bytes that the hex of a field stands for. */
 static size_t byte_count(struct field f)
 {
     return f.n == 1 && f.at[0] == '.' ? 0 : f.n / 2;
@@ -123,7 +123,7 @@ static int is_hex(struct field f)
     return f.n > 0 && f.n % 2 == 0;
 }
 
-/* Lays the bytes of a field's hex down; gives whether it was hex, or `.`. */
+/* Writes the bytes of a field's hex. Returns whether the field was hex, or `.`. */
 static int lay_bytes(struct field f, uint8_t *to)
 {
     size_t i, n = byte_count(f);
@@ -136,7 +136,7 @@ static int lay_bytes(struct field f, uint8_t *to)
     return 1;
 }
 
-/* A row without entries in place of a field that is not of its form. */
+/* A row without entries, for a field that does not have the right form. */
 static struct row *no_row(struct request *q, size_t width)
 {
     q->malformed = 1;
@@ -173,7 +173,7 @@ static size_t item_count(struct field f)
     return n;
 }
 
-/* Takes the first item off the front of what is left of a list. */
+/* Takes the first item off the rest of a list. */
 static struct field next_item(struct field *left)
 {
     struct field item = *left;
@@ -186,7 +186,7 @@ static struct field next_item(struct field *left)
     return item;
 }
 
-/* Lays one item down at its place in a row; gives whether it is of its form. */
+/* Writes one item to its place in a row. Returns whether the item has the right form. */
 typedef int lay_item(struct field item, uint8_t *to);
 
 static struct row *read_list(struct request *q, size_t k, size_t most, size_t width, lay_item *lay)
@@ -295,7 +295,7 @@ struct row *read_item_lengths(struct request *q, size_t k, size_t most)
     return read_list(q, k, most, sizeof(uint32_t), lay_item_length);
 }
 
-/* How many bytes the items of a list of byte rows have together. */
+/* The number of bytes that the items of a list of byte rows have together. */
 static size_t joined_count(struct field left)
 {
     size_t i, n = item_count(left), total = 0;

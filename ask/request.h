@@ -1,7 +1,7 @@
-/* A request and its answer: fields are read into rows, the call is made, and its answer is put into the line.
+/* A request and its answer: fields are read into rows, the call is made, and its answer is added to the line.
  *
- * A call's function reads its fields, takes rows for its outputs, and asks `ready`; it then makes the call, hands its number to `answered`, and puts
- * the fields of an answer 0. A field that is not of its form makes the whole line `?`, whatever else was read. oracle/README.md describes the
+ * A call's function reads its fields, takes rows for its outputs, and asks `ready`. Then it makes the call, passes its number to `answered`, and for the
+ * answer 0 adds the fields. If a field does not have the right form, the whole line is `?`, whatever else was read. oracle/README.md describes the
  * requests.
  */
 #ifndef ASK_REQUEST_H
@@ -33,17 +33,16 @@ struct request {
     int differs; /* two calls that must agree did not */
 };
 
-/* ---- What a field holds. k counts from 0 behind the request's name. */
+/* ---- What a field holds. k counts the fields from 0, without the request's name. */
 
-/* Bytes in hex, at most so many; `.` for none. */
+/* At most `most` bytes in hex; `.` for none. */
 struct row *read_bytes(struct request *q, size_t k, size_t most);
 
-/* The same, or `-` for no ML: *has is then 0, and the row may not be looked at. */
+/* The same, or `-` for no ML: *has is then 0, and the call may not look at the row. */
 struct row *read_ml(struct request *q, size_t k, uint8_t *has);
 
-/* Lists, `*` for none: of numbers up to 2^32-1, of places up to 2^64-1 (those above 2^32-1 as that, since both lie past every SEQ), of signed places
- * with
- * `-` for a missing one, of a reference's bases with `-` for a missing one, and of so many lengths. */
+/* Lists, `*` for none: of numbers up to 2^32-1; of places up to 2^64-1 (a place above 2^32-1 is read as 2^32-1, since both lie past every SEQ); of
+ * signed places with `-` for a missing one; of a reference's bases with `-` for a missing one; and of n lengths. */
 struct row *read_numbers(struct request *q, size_t k, size_t most);
 struct row *read_places(struct request *q, size_t k);
 struct row *read_signed_places(struct request *q, size_t k);
@@ -57,31 +56,31 @@ struct row *read_item_lengths(struct request *q, size_t k, size_t most);
 uint64_t read_number(struct request *q, size_t k, uint64_t largest);
 int64_t read_signed(struct request *q, size_t k);
 
-/* Whether a field is the one character, as `-` for a number that is not known. */
+/* Whether a field is just this character, such as `-` for a number that is not known. */
 int field_is(const struct request *q, size_t k, char character);
 
-/* Yes as some byte that is not 0, which varies by turn. */
+/* Yes is some byte other than 0, which varies by turn; no is 0. */
 uint8_t read_yes(struct request *q, size_t k);
 
-/* A pattern as a read's flags, whose other bits vary by turn; a mode as its number. */
+/* A pattern is given as a read's flags, whose other bits vary by turn; a mode is given as its number. */
 uint16_t read_pattern(struct request *q, size_t k);
 uint8_t read_mode(struct request *q, size_t k);
 
 /* ---- Outputs */
 
-/* A row for an output: as much room as the request lends by its number `which`, and never more than is ample. */
+/* A row for an output, with the room that the request gives as its number `which`, but at most `ample`. */
 struct row *output(struct request *q, size_t width, size_t which, size_t ample);
 
-/* A number, or an array of so many, that the call writes; and entry k of it after an answer 0. */
+/* A row for n numbers that the call writes; and entry k of it after the answer 0. */
 struct row *output_sizes(size_t n);
 size_t written(struct row *r, size_t k);
 
 /* ---- The call */
 
-/* Whether every field was of its form; the rows are then kept as they are, and the call comes next. */
+/* Keeps a copy of the rows. Returns whether every field had the right form; the call then comes next. */
 int ready(struct request *q);
 
-/* Notes a second call's number where it is to be the first's. */
+/* Notes if the number of a second call differs from that of the first, which it must equal. */
 void must_agree(struct request *q, uint8_t number, uint8_t other);
 
 #endif

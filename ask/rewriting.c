@@ -1,7 +1,7 @@
 /* MASK, DROP and CUT: a tag rewritten from one row to another. */
 #include "calls.h"
 
-/* A tag, and the rows that its edited form is written to: an edit never needs more than came in. */
+/* A tag, and the rows that the edited tag is written to. An edited tag is never longer than the tag that came in. */
 struct tag {
     uint8_t has_ml;
     struct row *mm, *ml, *mm_out, *ml_out, *mm_len, *ml_len;
@@ -19,7 +19,7 @@ static struct tag read_tag(struct request *q)
     return t;
 }
 
-/* A tag as the arguments that an edit takes for it. */
+/* The arguments that an edit takes for a tag. */
 #define TAG(t) U8((t).mm), U8((t).ml), (t).has_ml, U8((t).mm_out), U8((t).ml_out), as_size((t).mm_len), as_size((t).ml_len)
 
 static void put_edited(struct tag t, uint8_t number)
@@ -59,7 +59,7 @@ void ask_cut(struct request *q)
     struct tag t = read_tag(q);
     struct row *before = read_bytes(q, 2, BASES), *after = read_bytes(q, 3, BASES);
     uint8_t known = field_is(q, 4, '-') ? 0 : some_yes();
-    /* A start that is not known is some number, which must play no part. */
+    /* If the start is not known, any number is passed, which the call must ignore. */
     size_t start = known ? read_number(q, 4, UINT64_MAX) : rows_turn() / 4 % 3;
     if (ready(q))
         put_edited(t, aql_trim_clipped_modifications(U8(before), U8(after), known, start, TAG(t)));

@@ -1,17 +1,17 @@
-/* Rows between untouchable pages and canaries; rows.h says what for. */
+/* Rows between untouchable pages and canaries; rows.h says why. */
 #include "rows.h"
 
 #define ROWS 48
 #define PAGE 4096u
 #define CANARIES 64u
-/* The longest row, one base more than all reads of a count may have, and canaries beside it. */
+/* Room for the longest row, which has one base more than all reads of a count may have, and for the canaries beside it. */
 #define LONGEST (260u * PAGE)
 #define SPAN (LONGEST + 2 * PAGE)
 
 static struct row rows[ROWS];
 static size_t taken;
 static uint64_t turn;
-static int passed; /* a length passed its row */
+static int passed; /* a length was larger than its row */
 static uint8_t *spans;
 static uint8_t *copies;
 

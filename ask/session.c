@@ -26,7 +26,7 @@ void ask_step(struct request *q)
         number = aql_session_cut(U8(seq), U8(mm), U8(ml), has_ml, as_size(lengths), as_u32(given)[0], as_u32(given)[1]);
     if (!answered(number))
         return;
-    /* The rows are shown whole: what lies past the new lengths stays as it was, which rows_wrote sees too. */
+    /* The whole rows are printed. The bytes past the new lengths are unchanged, which rows_wrote checks too. */
     put_whole(seq, drops ? 0 : written(lengths, AQL_SESSION_SEQ));
     put_whole(mm, written(lengths, AQL_SESSION_MM));
     if (has_ml)

@@ -1,8 +1,8 @@
-/* A plugin of QEMU's that counts the instructions of the program it runs, in buckets that the program chooses: after its system call 8888 with k they
- * count in bucket k. No kernel knows that number, so the same program runs without the plugin too.
+/* A QEMU plugin that counts the instructions of the program that QEMU runs, in buckets. The program chooses the bucket: after its system call 8888
+ * with k, instructions count in bucket k. No kernel knows that number, so the same program runs without the plugin too.
  *
- * out=FILE: where to write a line for each bucket, its number and count. where=K: writes instead in which blocks the instructions of bucket K were
- * run, the costliest first, with their code.
+ * out=FILE: writes a line for each bucket to FILE, with its number and count. where=K: writes instead the blocks in which the instructions of bucket K
+ * were run, the costliest first, with their code.
  *
  * The declarations are those of qemu-plugin.h, version 1 (QEMU 4.2 to 8.2), which Debian does not package. */
 #include <stdbool.h>
@@ -42,11 +42,11 @@ EXPORTED int qemu_plugin_version = 1;
 #define SHOWN_BLOCKS 400
 static uint64_t counted[BUCKETS];
 static unsigned bucket;
-static unsigned shown_bucket; /* 0 where only counts are wanted */
+static unsigned shown_bucket; /* 0 if only counts are wanted */
 static FILE *out;
 
-/* A block of instructions as QEMU translated it. An instruction with a rep prefix runs as a loop of blocks, one for each element, where a processor
- * retires it once: a block that begins with the rep instruction that ran last is another turn of it. */
+/* A block of instructions as QEMU translated it. QEMU runs an instruction with a rep prefix as a loop of blocks, one for each element, but a processor
+ * counts it once. So a block that begins with the rep instruction that ran last is another turn of the same instruction. */
 struct block {
     uint64_t first, last, length;
     bool repeats;
@@ -78,7 +78,7 @@ static void block_runs(unsigned cpu, void *data) {
     ran_last = b->last;
 }
 
-/* Blocks are kept to the end, as their translation is. */
+/* Blocks are kept to the end, since QEMU keeps their translation. */
 static void block_translated(qemu_plugin_id_t id, struct qemu_plugin_tb *tb) {
     size_t n = qemu_plugin_tb_n_insns(tb);
     struct qemu_plugin_insn *first = qemu_plugin_tb_get_insn(tb, 0);

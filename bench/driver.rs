@@ -1,7 +1,7 @@
-//! Every side of the benchmark in one program: makes the inputs, runs each side on them, holds their answers together, and prints for each side
+//! All sides of the benchmark in one program: makes the inputs, runs each side on them, compares their answers, and prints for each side
 //! its bucket, row and time. The plugin count.c counts the instructions of each bucket.
 //!
-//! An argument gives the number of rounds.
+//! The argument is the number of rounds.
 
 mod inputs;
 mod original;
@@ -9,7 +9,7 @@ mod rattle;
 #[path = "../oracle/src/stand_ins.rs"]
 mod stand_ins;
 
-// The originals say `crate::MethylationMode`, `crate::vanilla_caller`, and `fgumi_dna::dna` for what is here the module `dna`.
+// The originals use `crate::MethylationMode` and `crate::vanilla_caller`, and the path `fgumi_dna::dna` for the module that is `dna` here.
 extern crate self as fgumi_dna;
 pub use stand_ins::{MethylationMode, vanilla_caller};
 include!(env!("BENCH_ORIGINALS"));
@@ -33,20 +33,20 @@ fn count_in(bucket: c_long) {
     unsafe { syscall(CHOOSE_BUCKET, bucket) };
 }
 
-/// How many calls a round has, each with a session of its own: enough for the clock, few enough for the processor's caches.
+/// How many calls a round has, each with its own session: enough for the clock, and few enough for the processor's caches.
 fn calls_a_round(c: &Case) -> usize {
     (64_000 / c.bases).min(64)
 }
 
-/// Measures sides: a bucket for each.
+/// Measures the sides, each in its own bucket.
 struct Meter {
     bucket: c_long,
     rounds: usize,
 }
 
 impl Meter {
-    /// Runs a side for some rounds, after one that is not counted; nor is what `restore` does before each. Prints the side's bucket, row and number
-    /// of calls, and the nanoseconds of a call in its fastest round.
+    /// Runs a side for some rounds, after one round that is not counted. `restore` runs before each round and is not counted either. Prints the
+    /// side's bucket, row and number of calls, and the nanoseconds of a call in its fastest round.
     fn side(&mut self, c: &Case, row: &str, who: &str, mut restore: impl FnMut(), mut call: impl FnMut(usize)) {
         self.bucket += 1;
         let calls = calls_a_round(c);

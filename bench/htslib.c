@@ -1,4 +1,4 @@
-/* htslib's side: a record with a tag is made once; reading it lists the place and the value of each call. */
+/* htslib's side. A record with a tag is made once; reading it lists the place and the value of each call. */
 #include <stdlib.h>
 #include <string.h>
 #include <htslib/sam.h>
@@ -8,7 +8,7 @@ struct reader {
     hts_base_mod_state *state;
 };
 
-/* A record of these bases with MM (text, ending in a 0) and ML; NULL where htslib makes none. */
+/* Makes a record of these bases with MM (text that ends in a 0 byte) and ML; NULL if htslib makes none. */
 void *hts_side_open(const char *seq, size_t bases, const char *mm, const uint8_t *ml, size_t values) {
     struct reader *r = malloc(sizeof *r);
     r->record = bam_init1();
@@ -25,7 +25,7 @@ void *hts_side_open(const char *seq, size_t bases, const char *mm, const uint8_t
     return failed ? NULL : r;
 }
 
-/* Reads the tag: the places and values of its calls, and how many there are; -1 where htslib refuses it. */
+/* Reads the tag: writes the places and values of its calls, and returns how many there are; -1 if htslib refuses the tag. */
 long hts_side_read(void *side, uint32_t *places, uint8_t *values) {
     struct reader *r = side;
     hts_base_mod mods[8];

@@ -78,11 +78,11 @@ pub struct Case {
     pub columns: Columns,
     pub mm: String,
     pub ml: Vec<u8>,
-    /// One place in ten: masked, or asked to be dropped.
+    /// One place in ten, to be masked or dropped.
     pub places: Vec<u32>,
     pub places_as_sizes: Vec<usize>,
     pub masked: Vec<u8>,
-    /// What a cut takes off each end.
+    /// How many bases a cut takes off each end.
     pub cut: usize,
     pub reads: Reads,
 }
@@ -103,7 +103,7 @@ fn evidence(seq: &[u8], density: Density, random: &mut Random) -> MethylationAnn
     MethylationAnnotation { evidence, pattern: ConversionPattern::CToT }
 }
 
-/// Reads of the last quarter of lengths, half of whose C are converted and one base in twenty not aligned.
+/// Reads of more than three quarters of the length of SEQ. Half of their C are converted, and one base in twenty is not aligned.
 fn reads(seq: &[u8], random: &mut Random) -> Reads {
     let lengths: Vec<usize> = (0..READS).map(|_| seq.len() - random.below(seq.len() as u64 / 4) as usize).collect();
     let read = |&n: &usize, random: &mut Random| -> Vec<u8> {
@@ -148,7 +148,7 @@ impl Case {
         }
     }
 
-    /// What a cut leaves of SEQ.
+    /// SEQ after the cut.
     pub fn window(&self) -> &[u8] {
         &self.seq[self.cut..self.bases - self.cut]
     }

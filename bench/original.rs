@@ -1,4 +1,4 @@
-//! The Rust's side: the original's functions, each behind one call that is not inlined. What they return is made and freed within the count.
+//! The Rust's side: the original's functions, each behind one call that is not inlined. The count includes making and freeing their results.
 
 use crate::MethylationMode;
 use crate::inputs::Case;

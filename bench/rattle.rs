@@ -162,7 +162,7 @@ impl CallRows {
     }
 }
 
-/// Two numbers, as check and tally answer them.
+/// Two numbers, the answers of check and tally.
 pub fn check(c: &Case) -> (u8, usize, usize) {
     let (mut groups, mut calls) = (0, 0);
     let answer = unsafe {

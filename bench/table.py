@@ -1,7 +1,7 @@
 #!/usr/bin/env python3
-"""table.py [--write] OUT: the tables of a run of the benchmark, from the counts and times in the folder OUT.
+"""table.py [--write] OUT: prints the tables of a run of the benchmark, from the counts and times in the folder OUT.
 
-With --write they take the place of those in docs/BENCHMARKS.md and README.md, between the lines that name them."""
+With --write they also replace the tables in docs/BENCHMARKS.md, between the lines that name them."""
 import glob
 import os
 import re
@@ -17,7 +17,7 @@ ALONE = ["check", "tally"]
 
 
 def sides(path):
-    """For each (row, bases, density, who) of a run's lines: its bucket, number of calls, and nanoseconds a call."""
+    """For each (row, bases, density, who) of a run's lines: its bucket, number of calls, and nanoseconds per call."""
     found = {}
     for line in open(path):
         bucket, row, bases, density, who, calls, time = line.split()
@@ -31,7 +31,7 @@ def instructions(out):
 
 
 def times(out):
-    """The median of the runs for each side, and how far a run is from its median at most, as a share."""
+    """The median of the runs for each side, and the largest distance of a run from its median, as a share."""
     runs = [{side: time for side, (_, _, time) in sides(path).items()} for path in glob.glob(os.path.join(out, "timed.*"))]
     median = {side: statistics.median(run[side] for run in runs) for side in runs[0]}
     spread = max(abs(run[side] / median[side] - 1) for run in runs for side in median if side[0] != "nothing")
@@ -65,7 +65,7 @@ def whole(cost):
 
 
 def short(cost):
-    """Ratios alone, a line for a call and a column for an input."""
+    """Only ratios, with a line for each call and a column for each input."""
     inputs = [(bases, density) for bases in SIZES for density in DENSITIES]
     head = ["x the Rust's"] + [f"{int(bases):,} {density}" for bases, density in inputs]
 
@@ -100,7 +100,7 @@ def main():
     if write:
         put("docs/BENCHMARKS.md", "instructions", whole(count))
         put("docs/BENCHMARKS.md", "times", short(time) + "\n" + said)
-        put("README.md", "ratios", short(count))
+        put("docs/BENCHMARKS.md", "ratios", short(count))
 
 
 if __name__ == "__main__":

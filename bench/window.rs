@@ -1,6 +1,6 @@
 
-/// Added for the benchmark, after the original's own text: what `trim_clipped_modifications_raw` does once the sequences are in read
-/// orientation, on one tag and without a record. Its lines are those of that function.
+/// Added for the benchmark after the original's own text: the part of `trim_clipped_modifications_raw` that works on sequences in read
+/// orientation, for one tag and without a record. Its lines are those of that function.
 pub fn trim_clipped_modifications(
     mm: &str,
     ml: Option<&[u8]>,

@@ -1,11 +1,11 @@
-//! Finds the Rust files that are compiled unchanged, and writes the module declarations that name them by path.
+//! Finds the Rust files, which are compiled unchanged, and writes the module declarations that name them by path.
 //!
-//! The folder is `FGUMI_SRC`, or else `shared/docs/src` beside the repository.
+//! Their folder is `FGUMI_SRC`, or else `shared/docs/src` beside the repository.
 
 use std::path::{Path, PathBuf};
 use std::{env, fs};
 
-/// Module name, and the file that is the module.
+/// The name of each module, and its file.
 const ORIGINALS: [(&str, &str); 3] = [
     ("methylation", "crates/fgumi-consensus/src/methylation.rs"),
     ("modifications", "crates/fgumi-consensus/src/modifications.rs"),

@@ -1,13 +1,13 @@
 #!/usr/bin/env python3
-"""Holds the model of 01 against the Rust, run unchanged.
+"""Compares the model of the scope (docs/SCOPE.md) with the Rust, which runs unchanged.
 
     python3 oracle/compare.py --seed 1                       # the whole comparison, with its table
     python3 oracle/compare.py --seed 2 --share 0.1           # a smaller one
 
-It fails (status 1, the first disagreements printed) unless Rust and model agree on acceptance and on
-every byte, outside the differences that 01 names (src/agree.rs); each of those is counted under its name. It also
-holds the model against the answers that the documents state (stated.py), since no run shows which number a refusal has.
-The status is 3, with a sentence, where cargo or the Rust files are not at hand. judge.py holds the C library against both.
+It fails (status 1, with the first disagreements printed) unless Rust and model agree on acceptance and on
+every byte, outside the differences that the scope names (src/agree.rs). Each of these is counted under its name.
+It also compares the model with the answers that the documents state (stated.py), since the Rust's refusals have no
+numbers. The status is 3, with a sentence, if cargo or the Rust files are missing. judge.py compares the C library with both.
 """
 import argparse
 import collections
@@ -49,7 +49,7 @@ class Counts:
             self.differences[call][verdict[1:]] += 1
 
     def add_all(self, program, requests, model):
-        """The model's answers to the requests, held against the Rust."""
+        """Adds the requests: the model's answers to them are compared with the Rust."""
         answers = list(map(model.answer, requests))
         for line, answer, verdict in zip(requests, answers, rust.verdicts(program, requests, answers)):
             self.add(line, answer, verdict)
@@ -85,7 +85,7 @@ def print_disagreements(found, out):
 
 
 def not_as_stated(model, calls):
-    """The stated requests that the model answers otherwise."""
+    """The stated requests to which the model gives another answer."""
     return [
         (line, answer, model.answer(line))
         for _, line, answer in stated.REQUESTS

@@ -1,11 +1,11 @@
 #!/usr/bin/env python3
-"""Holds the proved list of the scope's examples against the frozen requests that the program `ask` is run on.
+"""Compares the proved list of the scope's examples (docs/SCOPE.md) with the frozen requests that the program `ask` answers.
 
     python3 oracle/edges.py
 
-Each row of crates/edges/specs/Edges.antt is read as the request that it stands for. The request must be one of
-oracle/frozen, its answer there the row's, and each letter from (a) to (l) must have a row. So what is proved of
-the definitions and what the library is asked are the same examples.
+Each row of crates/edges/specs/Edges.antt is turned into a request. The request must be in oracle/frozen with the
+row's answer, and each letter from (a) to (l) must have a row. So the definitions are proved on the same examples
+that the library is asked.
 """
 import os
 import re
@@ -38,7 +38,7 @@ def atom(tokens):
 
 
 def term(tokens):
-    """A word and what it is applied to, or that put before a list."""
+    """A word with its arguments; before a `∷`, a list that begins with it."""
     head = atom(tokens)
     while tokens and tokens[0] not in (")", "∷"):
         head += (atom(tokens),)
@@ -49,7 +49,7 @@ def term(tokens):
 
 
 def definition(text, name):
-    """The term that a name of the file stands for: what follows `name =` up to an empty line."""
+    """The term that a name of the file is defined as: the text after `name =`, up to an empty line."""
     return term(TOKEN.findall(re.search(rf"(?ms)^{name} =(.*?)(?:\n\n|\Z)", text).group(1)))
 
 
@@ -66,7 +66,7 @@ def ml_of(found):
     return None if values is None else bytes(values)
 
 
-# By a request's word: the line that it stands for.
+# By the request's word: the function that writes its line.
 LINE = {
     "calls": lambda seq, mm, ml: p.calls(mm, ml_of(ml), seq),
     "drop": lambda seq, places, mm, ml: p.drop(mm, ml_of(ml), seq, places),
@@ -78,7 +78,7 @@ LINE = {
 
 
 def listed(groups):
-    """The call list: group, place, where the values start in ML and how many they are."""
+    """The call list: of each call the group, the place, and the start and the number of its values in ML."""
     rows, start = [], 0
     for group, calls in enumerate(groups, 1):
         for _, place, values in calls:

@@ -1,11 +1,11 @@
 #!/usr/bin/env python3
-"""Puts deliberate faults into the model, one at a time, and asks whether the comparison notices each.
+"""Puts deliberate faults into the model, one at a time, and checks that the comparison notices each.
 
     python3 oracle/faults.py
 
-Each fault is a change of the model's text that must apply exactly once. A fault is noticed when a changed model
-disagrees with the Rust on a modest list of requests, or with an answer that the documents state. Ends with
-`N faults, N noticed`; the status is 1 where one is not noticed, 3 where the Rust is not at hand.
+Each fault is a change of the model's text that must apply exactly once. A fault is noticed if the changed model
+disagrees with the Rust on a modest list of requests, or with an answer that the documents state. The last line is
+`N faults, N noticed`. The status is 1 if a fault is not noticed, and 3 if the Rust is missing.
 """
 import os
 import sys
@@ -18,7 +18,7 @@ import stated
 
 SEED, SHARE = 11, 0.05
 
-# Name, the model's words, the words put in their place.
+# Name, the model's text, the text that replaces it.
 FAULTS = [
     ("a masked base is counted in later skips",
      """            spot
@@ -181,7 +181,7 @@ def with_fault(text, name, old, new):
 
 
 def modest_lists():
-    """Requests of every call. The boundary ones are large, so only one call's are here."""
+    """Requests of every call. Boundary requests are large, so they are here for one call only."""
     for call in generate.CALLS:
         sections = generate.sections(call, SEED, SHARE)
         yield sections["short"] + sections["random"] + (sections["boundary"] if call == "REST" else [])
@@ -197,7 +197,7 @@ def disagreement(program, pairs):
 
 
 def noticed_by_rust(program, model, lists):
-    """The same of a faulty model, which is only asked where it answers otherwise than the sound one."""
+    """The first request on which the Rust disagrees with a faulty model. Answers that equal the sound model's are not judged."""
     for pairs in lists:
         changed = [(line, given) for line, answer in pairs if (given := model.answer(line)) != answer]
         line = disagreement(program, changed)

@@ -1,11 +1,11 @@
 #!/usr/bin/env python3
-"""Freezes requests and their answers, so that a gate can hold the program `ask` against them.
+"""Freezes requests and their answers, so that a test can compare the program `ask` with them.
 
     python3 oracle/freeze.py            # writes oracle/frozen/CALL.requests and CALL.answers for every call
-    python3 oracle/freeze.py --check    # writes nothing: are the frozen answers still the model's?
+    python3 oracle/freeze.py --check    # writes nothing; checks that the frozen answers are still the model's
 
-The answers are the model's; while freezing, the Rust is held against each of them, and nothing is written where
-the two disagree. `--check` takes no Rust: it asks the model for each answer again.
+The answers are the model's. Freezing compares each answer with the Rust, and writes nothing if the two disagree.
+`--check` needs no Rust: it asks the model for each answer again.
 """
 import argparse
 import collections
@@ -21,16 +21,16 @@ import rust
 SEED = 20_260
 FROZEN = os.path.join(rust.HERE, "frozen")
 
-# At most so many requests of each section; a section that is not named comes whole.
+# The most requests of each section; a section that is not named is frozen completely.
 MOST = {"short": 400, "random": 600, "malformed": 70}
 WHOLE = {"PAT": ("short",)}
-# Boundary requests are large: those of a call, with their answers, take no more than so many bytes together.
+# Boundary requests are large. By call: the most bytes that they take together, with their answers.
 BOUNDARY_BYTES = {
     "Q": 110_000, "CPG": 0, "PAT": 10_000, "FETCH": 150_000, "ANN": 260_000, "GATE": 230_000, "TRUNC": 230_000,
     "CNT": 180_000, "REST": 110_000, "BUILD": 240_000, "BUILDMM": 60_000, "DUP": 60_000, "CALLS": 100_000,
     "TALLY": 330_000, "MASK": 330_000, "DROP": 330_000, "CUT": 330_000, "STEP": 330_000,
 }
-# A larger request, with its answer, is compared in every run of compare.py and not frozen.
+# The most bytes of a frozen request with its answer. A larger request is only compared, in every run of compare.py.
 LARGEST = 500_000
 LEAST_OF_EACH_NUMBER, SHORT_LINE = 8, 2_000
 
@@ -44,7 +44,7 @@ def size_of(line):
 
 
 def within(requests, most_bytes):
-    """The first requests that, with their answers, together take no more than so many bytes."""
+    """The requests, from the first on, that fit into so many bytes together with their answers."""
     chosen, left = [], most_bytes
     for line in requests:
         if size_of(line) <= left:
@@ -63,8 +63,8 @@ def part_of(rng, call, name, requests):
 
 
 def missing_numbers(chosen, every):
-    """Further requests, so that each number that the call can answer with stands there several times, or once
-    where it takes a large request."""
+    """Further requests, so that each number of the call's answers occurs several times, or once if it takes a
+    large request."""
     seen = collections.Counter(number_of(model.answer(line)) for line in chosen)
     present, more = set(chosen), []
     for line in sorted(every, key=len):

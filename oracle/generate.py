@@ -1,13 +1,13 @@
 #!/usr/bin/env python3
-"""Makes requests for the program `ask`, the same ones for the same seed.
+"""Makes requests for the program `ask`. The same seed makes the same requests.
 
     python3 oracle/generate.py --calls Q,CPG --seed 7 --share 0.1 > requests
 
 For each call there are five sorts of requests: *stated* ones, whose answers the documents give (stated.py);
 *short* ones, all of them up to a small size; *boundary* ones, at and around the bounds of the domain and of the
 program's buffers; *random* ones, many of them with room exactly as needed or one less; and *malformed* lines.
-A share below 1 takes that part of the short and the random ones; the others always come whole. The boundary
-requests of a call stand in the order of their weight, since a frozen list takes only the first of them.
+A share below 1 takes that part of the short and the random requests; the other sorts are always complete. The
+boundary requests of a call come in order of importance, since a frozen list takes only the first of them.
 """
 import argparse
 import itertools
@@ -23,7 +23,7 @@ COUNTS = [0, 0, 1, 1, 2, 3, 7, 255, 256, 32_767, 32_768, 2**31, U32 - 1, U32]
 
 
 def words_over(symbols, most):
-    """All byte strings of at most so many symbols."""
+    """All byte strings of at most `most` symbols."""
     for count in range(most + 1):
         for chosen in itertools.product(symbols, repeat=count):
             yield b"".join(chosen)
@@ -35,7 +35,7 @@ def letters(text):
 
 
 def rows_over(values, most):
-    """All lists of at most so many values."""
+    """All lists of at most `most` values."""
     for count in range(most + 1):
         yield from map(list, itertools.product(values, repeat=count))
 
@@ -194,7 +194,7 @@ def boundary_ann():
 
 
 def random_columns(rng, length):
-    """Three columns; now and then one of them of another length."""
+    """Three columns; sometimes one of them has another length."""
     lengths = [length] * 3
     if rng.random() < 0.06:
         lengths[rng.randrange(3)] += rng.choice((-1, 1))
@@ -213,7 +213,7 @@ def large_columns(length):
 
 
 def unequal_columns():
-    """Columns of one or two positions that disagree, and those of the domain's bound that do."""
+    """Columns of 0 to 2 positions in all combinations, and columns at the domain's bound that differ in length."""
     for inf, unc, con in itertools.product(range(3), repeat=3):
         yield b"\1" * inf, [1] * unc, [2] * con
     for lengths in ((16_001, 16_000, 16_000), (1, 16_001, 1), (16_000, 16_000, 15_999)):
@@ -299,7 +299,7 @@ def boundary_rest():
 
 
 def short_evidence():
-    """Pattern, mode, SEQ and columns of at most two positions, and all small ratios at one."""
+    """Pattern, mode, SEQ and columns of at most two positions, and all small ratios of counts at one position."""
     at_place = list(itertools.product(b"CcGA", (0, 1), ((0, 0), (1, 0), (0, 1), (1, 1))))
     for places in rows_over(at_place, 2):
         seq = bytes(base for base, _, _ in places)
@@ -479,7 +479,7 @@ def random_tag(rng, seq, headers=HEADERS):
 
 
 def all_listed(length):
-    """A tag that lists every one of so many C."""
+    """A tag that lists every C of a SEQ of `length` C."""
     return b"C+m?" + b",0" * length + b";", (bytes(range(256)) * 63)[:length], b"C" * length
 
 
@@ -501,7 +501,7 @@ def large_tags():
 
 
 def many_groups(count):
-    """So many groups without an entry, on the longest SEQ: the Rust looks through SEQ for each."""
+    """`count` groups without an entry, on the longest SEQ: the Rust searches SEQ for each group."""
     return b"C+;" * count, None, b"C" * 16_000
 
 
@@ -559,7 +559,7 @@ def masked_at(seq, places):
 
 
 def short_edits():
-    """Every short tag with a fitting ML, or near it in turn, and every set of places of the short SEQ."""
+    """Every short tag with every set of places of the short SEQ: with an ML that fits, and with one of the near MLs by turns."""
     choices = itertools.cycle(range(4))
     for mm in short_texts(symbols=2, tokens=3):
         for places in subsets(range(4)):
@@ -679,7 +679,7 @@ def short_step():
 
 
 def buffer_lengths(rng, seq, mm, ml):
-    """The session's lengths; now and then one that someone else's change has made wrong."""
+    """The session's lengths; sometimes one of them is wrong, as if other code had changed it."""
     lengths = [len(seq), len(mm), len(ml or b"")]
     if rng.random() < 0.1:
         which = rng.randrange(3)
@@ -714,7 +714,7 @@ def boundary_step():
 
 # ---- All calls ---------------------------------------------------------------------------------
 
-# By call: all short requests, one random request, the boundary ones, and how many random ones a whole run takes.
+# By call: all short requests, one random request, the boundary requests, and the number of random requests in a whole run.
 SOURCES = {
     "Q": (short_q, random_q, boundary_q, 9_000),
     "CPG": (short_cpg, random_cpg, boundary_cpg, 2_500),
@@ -736,7 +736,7 @@ SOURCES = {
     "STEP": (short_step, random_step, boundary_step, 20_000),
 }
 CALLS = list(SOURCES)
-# These two work in place: the lists lend them no room, so that nothing is asked that they need not have.
+# These two calls work in place, so the lists lend them no room.
 NO_ROOM_ASKED = ("GATE", "REST")
 
 
@@ -765,7 +765,7 @@ def random_section(call, rng, count):
 
 
 def malformed(call, rng, count=4):
-    """Lines near the form of a request that are not of it (a few may be, by chance)."""
+    """Lines that are almost of the form of a request (a few may be requests by chance)."""
     for _ in range(count):
         name, *fields = SOURCES[call][1](rng).split("\t")
         at = rng.randrange(len(fields))

@@ -1,16 +1,19 @@
 #!/usr/bin/env python3
-"""Holds the C library, through the program `ask`, against the frozen answers, the model and the Rust.
+"""Compares the C library, through the program `ask`, with the frozen answers, the model and the Rust.
 
     python3 oracle/judge.py frozen                  # every frozen request, in sixteen turns
     python3 oracle/judge.py fresh --seed 7 --share 0.5
     python3 oracle/judge.py load --seed 7 --requests 20000000 --sample 1000000
 
 `frozen` asks each request sixteen times: with the untouchable page behind the rows and before them, with empty rows
-that are NULL and that are not, and with each of four bytes for yes. `fresh` takes the requests of generate.py and compares every answer with the model's.
-`load` has the Rust driver change fresh requests at random and judge each answer, acceptance and bytes, without Python
-on the way; of a sample every number is then compared with the model's. As many parts run at a time as there are
-processors. A request that fails is shrunk before it is shown. The status is 1 where any answer is another, where a call
-writes or reads outside its rows, and where a program ends early; 3 where `load` lacks the Rust.
+that are NULL and that are not, and with each of four bytes for yes.
+`fresh` takes the requests of generate.py and compares every answer with the model's.
+`load` makes the Rust driver change fresh requests at random and judge the acceptance and the bytes of each answer,
+without Python in between. Then the numbers of a sample are compared with the model's.
+
+As many parts run at a time as there are processors. A failing request is shrunk before it is shown. The status is 1
+if any answer differs, if a call writes or reads outside its rows, or if a program ends early; it is 3 if `load` lacks
+the Rust.
 """
 import argparse
 import collections
@@ -32,23 +35,23 @@ import shrink
 TOOLS = os.path.join(rust.HERE, "..", "tools")
 PROCESSORS = os.cpu_count()
 SHOWN = 3  # failing requests that are shrunk and shown
-TURNS = range(16)  # after so many, page, NULL and yes come again
-MANY_TURNS = 64  # in which a failing request is asked again, since the flags' other bits vary too
+TURNS = range(16)  # after sixteen turns page, NULL and yes repeat
+MANY_TURNS = 64  # a failing request is asked again in so many turns, since the flags' other bits vary too
 
 
 # ---- Splitting and running ---------------------------------------------------------------------
 
 
 def ask_command():
-    """The words that start `ask`, built first where it has to be."""
-    subprocess.run([os.path.join(TOOLS, "build-ask")], check=True)
-    program = os.path.join(rust.HERE, "..", "target", "ask", "ask")
+    """The command that starts `ask`, which is built first if necessary."""
+    subprocess.run([os.path.join(TOOLS, "build"), "ask"], check=True)
+    program = os.path.join(rust.HERE, "..", "target", "programs", "ask")
     shown = subprocess.run([os.path.join(TOOLS, "run-program"), "--show", program], check=True, stdout=subprocess.PIPE, text=True)
     return shown.stdout.split("\n")[:-1]
 
 
 def parts_of(rows, count=PROCESSORS):
-    """The rows in so many runs of about the same length."""
+    """The rows, divided into `count` parts of about the same length."""
     size = -(-len(rows) // count) or 1
     return [rows[at : at + size] for at in range(0, len(rows), size)]
 
@@ -58,7 +61,7 @@ def one_part(command, requests, turn):
     run = subprocess.run([*command, str(turn)], input=given, stdout=subprocess.PIPE, stderr=subprocess.PIPE, check=False)
     answers = run.stdout.decode("latin-1").split("\n")[:-1]
     why = run.stderr.decode().strip() or "status %d" % run.returncode
-    # What it did not answer: its call ended the run, or the run never came to it.
+    # Requests without an answer: the first of them ended the run, and the run did not reach the others.
     answers += [f"(no answer: {why})"] * (len(requests) - len(answers))
     if run.returncode and answers:
         answers[-1] += f" (then the run failed: {why})"
@@ -66,7 +69,7 @@ def one_part(command, requests, turn):
 
 
 def answers_of(command, requests, turn=0):
-    """The library's answers, the parts side by side."""
+    """The library's answers; the parts run in parallel."""
     with concurrent.futures.ThreadPoolExecutor(PROCESSORS) as pool:
         found = pool.map(lambda part: one_part(command, part, turn), parts_of(requests))
         return [answer for part in found for answer in part]
@@ -90,7 +93,7 @@ def unlike(requests, given, wanted):
 
 
 def given_and_wanted(command, line):
-    """An answer that is not as it should be, with who says what it should be; None where every turn answers rightly."""
+    """A wrong answer, who judges it, and what that judge says; None if every turn answers rightly."""
     wanted = model.answer(line)
     given = one_part(command, [line] * MANY_TURNS, 0)
     for answer in given:
@@ -104,7 +107,7 @@ def given_and_wanted(command, line):
 
 
 def way_of(found):
-    """How it fails: both numbers, and whether more than the answer is wrong. A smaller request has to fail in the same way."""
+    """How a request fails: both numbers, the judge, and whether the line ends in WROTE. A smaller request has to fail in the same way."""
     return found and (found[0].split("\t")[0], found[0].endswith("WROTE"), found[1], found[2].split("\t")[0])
 
 

@@ -118,7 +118,7 @@ def step(seq, mm, ml, lengths, kind, arguments):
 
 
 def whole_step(seq, mm, ml, kind, arguments):
-    """A step on buffers that the session fills whole."""
+    """A step on buffers that the session fills completely."""
     return step(seq, mm, ml, [len(seq), len(mm), len(ml or b"")], kind, arguments)
 
 
@@ -151,7 +151,7 @@ def duplex_room(seq, mm, ml, cu, ct, *strands):
     return [max(map(row_length, (mm, *strands[::3]))), row_length(ml)]
 
 
-# By call that may be lent room: from the fields of answer 0 to the least room that takes them.
+# For each call that may be lent room: a function from the fields of answer 0 to the least room for them.
 ROOM_FOR = {
     "Q": lambda places: [list_length(places)],
     "FETCH": lambda found: [list_length(found)],

@@ -1,19 +1,19 @@
 #!/usr/bin/env python3
-"""What document 01 asks of every call, as a model that answers the requests of the program `ask`.
+"""A model of the scope (docs/SCOPE.md): answers the requests of the program `ask` as the scope requires.
 
     python3 oracle/model.py < requests > answers
 
-Written from 01's words. A tag is read as rows of spots: each group has one spot for every base that it
-tracks, in order, and a spot is bare or called; a skip is nothing but a count of bare spots. Masking and
-cutting take spots out, dropping makes a call bare, and the text is written from what is left.
+It is written from the scope's words. A tag is read as rows of spots: each group has one spot for every base
+that it tracks, in order, and a spot is bare or called; a skip is a count of bare spots. Masking and cutting
+remove spots, dropping makes a call bare, and the text is written from the spots that are left.
 
-The parts, in order: 01's numbers and bounds; the form of requests; alignment; evidence; building; reading;
-editing; the session's steps; the table of calls.
+The parts, in order: the scope's numbers and bounds; the form of requests; alignment; evidence; building;
+reading; editing; the session's steps; the table of calls.
 """
 import re
 import sys
 
-# ---- 01's numbers and bounds -------------------------------------------------------------------
+# ---- The scope's numbers and bounds ------------------------------------------------------------
 
 TOO_LONG, UNEQUAL, NOT_ASCII, NO_LAST_SEMICOLON, SHORT_HEADER = 1, 2, 3, 4, 5
 BAD_SKIP, PAST_LAST_BASE, ML_ENDS, ML_LEFT_OVER, CANNOT_DROP = 6, 7, 8, 9, 10
@@ -53,13 +53,13 @@ def refuse_if(condition, number):
 
 
 def refuse_longer(most, *rows):
-    """1 where any of the rows is longer than the domain allows; an absent row is not there."""
+    """Refuses with 1 if any row is longer than the domain allows; an absent row (None) is ignored."""
     for row in rows:
         refuse_if(row is not None and len(row) > most, TOO_LONG)
 
 
 def refuse_unequal(*rows):
-    """2 where the rows are not of one length."""
+    """Refuses with 2 if the rows differ in length."""
     refuse_if(len({len(row) for row in rows}) > 1, UNEQUAL)
 
 
@@ -188,7 +188,7 @@ class Room:
         self.sizes = sizes
 
     def take(self, *needed):
-        """12, last of all, where what is needed passes what is lent; what is None isn't written."""
+        """Refuses with 12, last of all, if an output needs more room than is lent; an output that is None isn't written."""
         if self.sizes is not None:
             for need, lent in zip(needed, self.sizes):
                 refuse_if(need is not None and need > lent, NO_ROOM)
@@ -203,7 +203,7 @@ MOVING = (DELETION, SKIP)
 
 
 def forward_places(operations, start):
-    """The reference place of each base, from the left; None where it is missing."""
+    """The reference place of each base, from the left; None if it is missing."""
     found, at = [], start
     for length, kind in operations:
         if kind in PLACED:
@@ -235,7 +235,7 @@ def ask_places(words, start, reverse, room):
 
 
 def is_cpg(reference, place, top):
-    """Top: C, then G at the next place; bottom: G, with C at the place before. Off the slice is no."""
+    """Top: C, then G at the next place; bottom: G, with C at the place before. Outside the slice the answer is no."""
     first = place if top else place - 1
     return first >= 0 and reference[first : first + 2].upper() == b"CG"
 
@@ -245,7 +245,7 @@ def ask_cpg(reference, place, top, room):
 
 
 def fetched_base(reference, place):
-    """The base at a place; 0 where it is missing: a negative place, or one off the slice."""
+    """The base at a place; 0 if it is missing: the place is negative, or outside the slice."""
     return reference[place] if 0 <= place < len(reference) else 0
 
 
@@ -367,7 +367,7 @@ def ask_counts(pattern, inf, unc, con, room):
 
 
 def restored(pattern, seq, inf):
-    """The unconverted base over a converted one, of any case, at informative places."""
+    """SEQ with the unconverted base in place of each converted one, in upper or lower case, at informative places."""
     _, kept, changed = BASES[pattern]
     letters = seq.upper()
     return bytes(
@@ -391,7 +391,7 @@ def ml_value(numerator, total):
 
 
 def build_tag(pattern, mode, seq, inf, unc, con):
-    """Text and ML of the calls that the evidence gives; both empty where it gives none."""
+    """Text and ML of the calls that the evidence gives; both are empty if it gives none."""
     if mode == "D":
         return b"", b""
     tracked = BASES[pattern][0]
@@ -411,7 +411,7 @@ def build_tag(pattern, mode, seq, inf, unc, con):
 
 
 def build_request(pattern, mode, seq, inf, unc, con):
-    """The tag that a BUILD or BUILDMM asks for, room apart."""
+    """The tag that a BUILD or BUILDMM asks for, before the room is checked."""
     pattern, mode, seq = pattern_letter(pattern), mode_letter(mode), bases(seq)
     inf, unc, con = read_columns(inf, unc, con)
     refuse_bad_columns(seq, inf, unc, con)
@@ -438,7 +438,7 @@ def combined_counts(columns):
 
 
 def text_or_dash(row):
-    """A text, `-` where it has no calls."""
+    """A text, or `-` if it has no calls."""
     return show_bytes(row) if row else "-"
 
 
@@ -498,7 +498,7 @@ def values_per_base(header):
 
 
 def bare_spots(field, room_left):
-    """How many bare spots a skip stands for; 7 where the call after them would not be in SEQ."""
+    """How many bare spots a skip counts; refuses with 7 if the call after them would be outside SEQ."""
     refuse_if(not field.isdigit(), BAD_SKIP)
     digits = field.lstrip(b"0")
     refuse_if(len(digits) > 20, PAST_LAST_BASE)  # however large the number
@@ -597,7 +597,7 @@ def write_tag(groups, ml):
 
 
 def take_spots_out(groups, after, first):
-    """Keeps the spots whose base is still held by `after`, SEQ from the place `first` on.
+    """Keeps the spots whose base `after` still holds; `after` is the edited SEQ and begins at the place `first`.
 
     A group on N tracks every base that is left."""
     last = first + len(after)
@@ -611,7 +611,7 @@ def take_spots_out(groups, after, first):
 
 
 def make_bare(groups, dropped):
-    """A dropped call is a bare spot from now on: its base stays in SEQ."""
+    """Makes each dropped call a bare spot: its base stays in SEQ."""
     for group in groups:
         group.row = [
             BARE if place in dropped else spot for place, spot in zip(group.places, group.row)
@@ -619,14 +619,14 @@ def make_bare(groups, dropped):
 
 
 def window_tag(mm, ml, before, after, first):
-    """The tag of `after`, which stands in `before` from the place `first` on."""
+    """The tag of `after`, which begins in `before` at the place `first`."""
     groups = read_tag(mm, ml, before)
     take_spots_out(groups, after, first)
     return write_tag(groups, ml)
 
 
 def dropped_tag(mm, ml, seq, named):
-    """Places past the end do nothing."""
+    """The tag without the calls at the named places. Places past the end do nothing."""
     dropped = frozenset(named)
     groups = read_tag(mm, ml, seq, dropped)
     make_bare(groups, dropped)
@@ -634,7 +634,7 @@ def dropped_tag(mm, ml, seq, named):
 
 
 def window_start(before, after, start):
-    """Where `after` stands in `before`, or 11. Equal lengths start at 0, any given start ignored."""
+    """The place in `before` at which `after` begins, or 11. With equal lengths it is 0, and a given start is ignored."""
     first = 0 if len(after) == len(before) else start
     refuse_if(first is None or first + len(after) > len(before), NO_WINDOW)
     window = before[first : first + len(after)]
@@ -698,7 +698,7 @@ STEPS = {"MK": mask_step, "DR": drop_step, "CU": cut_step}
 
 
 def over(new, buffer):
-    """The buffer with its front replaced; bytes past the new length stay as found."""
+    """The buffer with its front replaced; bytes past the new length are unchanged."""
     return new + buffer[len(new) :]
 
 
@@ -714,7 +714,7 @@ def ask_step(seq, mm, ml, lengths, kind, arguments, room):
     refuse_if(ml is not None and in_ml > len(ml), UNEQUAL)
     own_ml = None if ml is None else ml[:in_ml]
     new_seq, new_mm, new_ml = STEPS[kind](seq[:in_seq], mm[:in_mm], own_ml, arguments)
-    # Without ML its length isn't looked at and stays as it is.
+    # Without ML its length is ignored and stays unchanged.
     new_lengths = [len(new_seq), len(new_mm), in_ml if ml is None else len(new_ml)]
     buffers = [show_bytes(over(new_seq, seq)), show_bytes(over(new_mm, mm))]
     buffers.append("-" if ml is None else show_bytes(over(new_ml, ml)))
@@ -723,7 +723,7 @@ def ask_step(seq, mm, ml, lengths, kind, arguments, room):
 
 # ---- The calls ---------------------------------------------------------------------------------
 
-# By name: the function, how many fields (None: it sees for itself), how many numbers of room it may be lent.
+# By name: the function, the number of fields (None: the function checks it), how many numbers of room it may be lent.
 CALLS = {
     "Q": (ask_places, 3, 1),
     "CPG": (ask_cpg, 3, 0),
@@ -748,7 +748,7 @@ AMPLE = Room()
 
 
 def read_room(fields, sizes):
-    """Takes the room off the end of the fields, where the request lends any."""
+    """Takes the room off the end of the fields, if the request lends any."""
     if not fields or not fields[-1].startswith("@"):
         return AMPLE
     room = numbers(fields.pop()[1:], U64, 2)

@@ -6,7 +6,7 @@ import subprocess
 import sys
 
 HERE = os.path.dirname(os.path.abspath(__file__))
-NOT_AT_HAND = 3  # the exit status where nothing could be compared
+NOT_AT_HAND = 3  # the exit status if nothing could be compared
 
 
 def source_folder():
@@ -14,7 +14,7 @@ def source_folder():
 
 
 def cargo_is_too_old():
-    """The Rust files and the driver want cargo 1.85; a distribution's own may be older."""
+    """Whether cargo is older than 1.85, which the Rust files and the driver need; a distribution's own may be older."""
     said = subprocess.run(["cargo", "--version"], stdout=subprocess.PIPE, text=True, check=True).stdout
     version = said.split()[1].split("-")[0]
     return tuple(map(int, version.split(".")[:2])) < (1, 85)
@@ -35,7 +35,7 @@ def missing():
 
 @functools.cache
 def driver():
-    """The path of the built driver; leaves with a sentence where it can't be built."""
+    """The path of the built driver; exits with a sentence if it can't be built."""
     lack = missing()
     if lack:
         sys.stderr.write(lack + "; nothing was compared with it\n")

@@ -1,7 +1,7 @@
 """Makes a failing request smaller: takes parts out of its fields for as long as it still fails.
 
-Fields of one length, as before and after of a mask, also lose the same part together. Nothing here knows which field
-holds what: a request that is no longer of its form is answered `?` by everybody, and so does not fail.
+Fields of the same length, such as `before` and `after` of a mask, also lose the same part together. The code does not
+know what each field holds: a request that has lost its form is answered `?` by every program, and so does not fail.
 """
 import re
 
@@ -9,7 +9,7 @@ MOST_TRIES = 1_500  # each starts a program
 
 
 def items_of(field):
-    """A field as its items, with what stands between them: bytes in hex, or a list."""
+    """The items of a field, and the text between two items. The field is bytes in hex, or a list."""
     if re.fullmatch("(?:[0-9a-f]{2})+", field):
         return re.findall("..", field), ""
     return ([] if field == "*" else field.split(",")), ","
@@ -71,7 +71,7 @@ def next_smaller(line, fails, tries):
     for one in candidates(line):
         if tries[0] == 0:
             return None
-        # Shorter, or of the same length with a smaller number: so it comes to an end.
+        # The request gets shorter, or keeps its length with a smaller number; so shrinking ends.
         if (len(one), one) < (len(line), line):
             tries[0] -= 1
             if fails(one):
@@ -80,7 +80,7 @@ def next_smaller(line, fails, tries):
 
 
 def shrunk(line, fails):
-    """The smallest failing request that was found; the request itself where it does not fail alone."""
+    """The smallest failing request that was found; the request itself if it does not fail alone."""
     tries = [MOST_TRIES]
     if not fails(line):
         return line

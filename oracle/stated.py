@@ -1,8 +1,8 @@
-"""Requests whose answers the documents themselves state: 01's examples and rules, and the Rust's edges.
+"""Requests whose answers the documents themselves state: the scope's examples and rules (docs/SCOPE.md), and the Rust's edges.
 
-The answers here are copied from the documents' words and not computed, so that they also judge what no run of
-the Rust can show: which number a refusal has, and which of two comes first. Each entry is a name, a request
-and its answer.
+The answers are copied from the documents' words and not computed. So they also judge what no run of the Rust can
+show: which number a refusal has, and which of two numbers comes first. Each entry is a name, a request and its
+answer.
 """
 import lines as p
 
@@ -18,7 +18,7 @@ def zeros(count):
     return b"0" * count
 
 
-# ---- 01, the examples (a) to (l) ---------------------------------------------------------------
+# ---- The scope: the examples (a) to (l) --------------------------------------------------------
 
 state("a: empty text", p.calls(b"", b"", b"ACGT"), 4)
 state("b: a lone semicolon", p.calls(b";", b"", b"ACGT"), 5)
@@ -43,7 +43,7 @@ state("l: start 1", p.cut(b"C+m?,0;", None, b"ACGT", b"CG", 1), p.edited(b"C+m?,
 state("l: start 2", p.cut(b"C+m?,0;", None, b"ACGT", b"CG", 2), 11)
 state("l: start unknown", p.cut(b"C+m?,0;", None, b"ACGT", b"CG", None), 11)
 
-# 01's session, step by step.
+# The scope's session, step by step.
 state("session: mask", p.whole_step(b"ACCGTCC", b"C+m?,0,1,0;", bytes([200, 90, 30]), "MK", [1]),
       p.done(p.row(b"ANCGTCC"), p.row(b"C+m?,1,0;0;"), p.row(bytes([90, 30, 30])), "7,9,2"))
 state("session: drop", p.whole_step(b"ANCGTCC", b"C+m?,1,0;", bytes([90, 30]), "DR", [5]),
@@ -51,7 +51,7 @@ state("session: drop", p.whole_step(b"ANCGTCC", b"C+m?,1,0;", bytes([90, 30]), "
 state("session: cut", p.whole_step(b"ANCGTCC", b"C+m?,2;", bytes([30]), "CU", [3, 0]),
       p.done(p.row(b"GTCCTCC"), p.row(b"C+m?,1;"), p.row(bytes([30])), "4,7,1"))
 
-# ---- 01, the numbers and their order -----------------------------------------------------------
+# ---- The scope: the numbers and their order ----------------------------------------------------
 
 state("1 before 2", p.mask(b"C+m;", None, b"A" * 16_001, b"A"), 1)
 state("1: MM", p.calls(b"C+" + b"m" * 65_534 + b";", None, b""), 1)
@@ -115,7 +115,7 @@ state("1: query", p.q([16_001 << 4], 0, False), 1)
 state("1: query summed past 2^32", p.q([U32 & ~15] * 17, 0, False), 1)
 state("12: places", p.q([2 << 4], 0, False, room=1), 12)
 
-# ---- 01, evidence and building -----------------------------------------------------------------
+# ---- The scope: evidence and building ----------------------------------------------------------
 
 state("flag 0x80 clear", p.pat(0x7F), p.done("C", p.row(b"CCT")))
 state("flag 0x80 set", p.pat(0x80), p.done("G", p.row(b"GGA")))
@@ -243,12 +243,12 @@ state("SAMtags: three groups", p.calls(b"C+m,2,2,1,4,1;C+76792,6,7;N+n,15;", byt
       p.done(3, "1:6:0:1,1:17:1:1,1:20:2:1,1:31:3:1,1:34:4:1,2:19:5:1,2:34:6:1,3:15:7:1"))
 state("SAMtags: two codes at once", p.calls(b"C+mh,5,0;", bytes(4), SAMTAGS_SEQ), p.done(1, "1:17:0:2,1:19:2:2"))
 state("SAMtags: an empty MM", p.calls(b"", None, SAMTAGS_SEQ), 4)
-# The text's own examples name no SEQ: the 6th, 19th and 20th C; the 15th G; two codes at the 6th and the 19th C. Proved too (samtags-examples).
+# SAMtags' own examples name no SEQ: the 6th, 19th and 20th C; the 15th G; two codes at the 6th and the 19th C. They are proved too (samtags-examples).
 state("SAMtags: C+m,5,12,0", p.calls(b"C+m,5,12,0;", bytes([1, 2, 3]), b"C" * 20), p.done(1, "1:5:0:1,1:18:1:1,1:19:2:1"))
 state("SAMtags: G-m,14", p.calls(b"G-m,14;", bytes([1]), b"G" * 20), p.done(1, "1:14:0:1"))
 state("SAMtags: C+mh,5,12", p.calls(b"C+mh,5,12;", bytes([1, 2, 3, 4]), b"C" * 20), p.done(1, "1:5:0:2,1:18:2:2"))
 
-# ---- The smallest inputs of docs/DIFFERENCES.md that don't stand above ----------------------------
+# ---- The smallest inputs of docs/DIFFERENCES.md that are not above --------------------------------
 
 state("differs: UTF-8", p.calls("é;".encode(), None, b""), 3)
 state("differs: a 0 in the reference", p.fetch([0], b"\0"), p.done("-"))

@@ -1,15 +1,15 @@
 #!/usr/bin/env python3
-"""What document 01 asks of the program `tagedit`, as a model on places, and inputs to hold the program against it.
+"""A model of the program `tagedit` by the scope (docs/SCOPE.md), on places; and inputs to compare the program with it.
 
     python3 oracle/tagedit.py < input > output      # the model alone
     python3 oracle/tagedit.py --freeze              # writes oracle/frozen/TAGEDIT.inputs and TAGEDIT.outputs
-    python3 oracle/tagedit.py --check               # are they as they would be written?
-    python3 oracle/tagedit.py --run                 # the proved program on the frozen inputs and on the largest ones
-    python3 oracle/tagedit.py --run --seed N --count K      # and on K fresh inputs
+    python3 oracle/tagedit.py --check               # checks that they are as they would be written
+    python3 oracle/tagedit.py --run                 # the command on the frozen inputs and on the largest ones
+    python3 oracle/tagedit.py --run --proved --seed N --count K     # and the program of crates/tagedit; and on K fresh inputs
 
-Nothing is edited here. The opening gives a list of calls, each at its place in the opening SEQ; the steps are kept as
-what they took away (bases off the front and the back, masked places, dropped places); and the text is written once, at
-the end, from the places of the calls that are left. So an error in the walk that rewrites a tag is not repeated here.
+The model edits no tag. The opening gives a list of calls, each at its place in the opening SEQ. The steps are kept as
+what they removed (bases off the front and the back, masked places, dropped places). The text is written once, at the
+end, from the places of the remaining calls. So an error in the walk that rewrites a tag is not repeated here.
 """
 import argparse
 import concurrent.futures
@@ -24,7 +24,8 @@ import model
 
 BAD_LINE = 13
 LONGEST_INPUT = 65_536
-FROZEN = os.path.join(os.path.dirname(os.path.abspath(__file__)), "frozen")
+ROOT = os.path.join(os.path.dirname(os.path.abspath(__file__)), "..")
+FROZEN = os.path.join(ROOT, "oracle", "frozen")
 SEED, FROZEN_COUNT = 20_261, 2_400
 is_numbers = re.compile(rb"[0-9]+(?:,[0-9]+)*").fullmatch
 
@@ -47,7 +48,7 @@ def numbers(body, largest):
 
 
 class Session:
-    """An opening, and what the steps took away from it. Places are those of the opening SEQ."""
+    """An opening, and what the steps removed from it. Places are those of the opening SEQ."""
 
     def __init__(self, seq, mm, ml):
         model.refuse_long_tag(mm, ml, seq)
@@ -110,7 +111,7 @@ class Session:
         return b",".join(fields) + b";"
 
     def lines(self):
-        """A tag that no step edited stands as it was spelled."""
+        """The lines after the answers. A tag that no step edited keeps its spelling."""
         mm, ml = self.mm, self.ml
         if self.edited:
             mm = b"".join(self.group_now(*group) for group in self.groups)
@@ -124,7 +125,7 @@ class Session:
 
 
 def step(session, line):
-    """Takes one step; a refusal is raised, and so is a bad line."""
+    """Takes one step; raises a refusal or a bad line."""
     mark, body = line[:2], line[2:]
     if mark not in (b"MK", b"DR", b"CU"):
         raise BadLine
@@ -196,7 +197,7 @@ def random_step(rng, length):
 
 
 def odd_line(rng, line):
-    """A line near the form of one that is not of it (a few may be, by chance)."""
+    """A line that is almost of the form (a few may be of the form by chance)."""
     ways = (
         b"", b"\r", line + b"\r", line + b",", line[:2] + b"," + line[2:], line[:1], line[:2], line.lower(), b" " + line,
         line + b" ", line[:2] + b"-1", line[:2] + b"+1", line[:2] + b"1,,2", line[:2] + b"%d" % (model.U32 + 1),
@@ -206,7 +207,7 @@ def odd_line(rng, line):
 
 
 def spoilt(rng, lines):
-    """One line changed, put in, taken out, doubled, or two of them changed about."""
+    """The lines with one of them changed, inserted, removed or doubled, or with two of them exchanged."""
     way, at = rng.randrange(6), rng.randrange(len(lines))
     if way <= 1:
         lines[at] = odd_line(rng, lines[at])
@@ -235,7 +236,7 @@ def random_input(rng):
 
 
 def refused_drops(head, size):
-    """So many bytes: a head, and drops of four bytes each that are refused, the last without its LF."""
+    """An input of at most `size` bytes: a head, then refused drops of four bytes each, the last without its LF."""
     return head + (b"DR0\n" * ((size + 1 - len(head)) // 4))[:-1]
 
 
@@ -291,30 +292,35 @@ def check():
 # ---- The program -------------------------------------------------------------------------------
 
 
-def program():
-    tool = os.path.join(os.path.dirname(FROZEN), "..", "tools", "run-program")
-    shown = subprocess.run([tool, "--show", "tagedit"], check=True, capture_output=True, text=True)
+def start_of(program):
+    """The words that start a program."""
+    shown = subprocess.run([os.path.join(ROOT, "tools", "run-program"), "--show", program], capture_output=True, text=True)
+    if shown.returncode:
+        sys.exit(shown.stderr.strip())
     return shown.stdout.split("\n")[:-1]
 
 
-def run(seed, count):
-    """Each input is a run of its own, and as many run at a time as there are processors."""
-    command, rng = program(), random.Random(seed)
+def run(programs, seed, count):
+    """Runs each program once for each input, as many runs at a time as there are processors."""
+    subprocess.run([os.path.join(ROOT, "tools", "build"), "tagedit"], check=True)
+    commands, rng = [start_of(os.path.join(ROOT, "target", program)) for program in programs], random.Random(seed)
     kept = list(zip(frozen(INPUTS), frozen(OUTPUTS), strict=True))
     large, fresh = list(largest_inputs()), [random_input(rng) for _ in range(count)]
     pairs = kept + [(given, output(given)) for given in large + fresh]
+    tries = [(command, *pair) for pair in pairs for command in commands]
     with concurrent.futures.ThreadPoolExecutor(os.cpu_count()) as pool:
-        runs = pool.map(lambda pair: subprocess.run(command, input=pair[0], capture_output=True), pairs)
-        for (given, wanted), got in zip(pairs, runs):
+        runs = pool.map(lambda row: subprocess.run(row[0], input=row[1], capture_output=True), tries)
+        for (command, given, wanted), got in zip(tries, runs):
             if got.returncode != 0 or got.stdout != wanted:
-                print("input  ", given[:2_000], "\nwanted ", wanted[:2_000], "\nprogram", got.returncode, got.stdout[:2_000])
+                print("input  ", given[:2_000], "\nwanted ", wanted[:2_000], "\nprogram", command[-1], got.returncode, got.stdout[:2_000])
                 sys.exit(1)
-    print("tagedit and the model agree on %d frozen, %d large and %d fresh inputs" % (len(kept), len(large), len(fresh)))
+    words = " and ".join(programs), len(kept), len(large), len(fresh)
+    print("%s and the model agree on %d frozen, %d large and %d fresh inputs" % words)
 
 
 def main():
     parser = argparse.ArgumentParser()
-    for way in ("--freeze", "--check", "--run"):
+    for way in ("--freeze", "--check", "--run", "--proved"):
         parser.add_argument(way, action="store_true")
     parser.add_argument("--seed", type=int, default=1)
     parser.add_argument("--count", type=int, default=0)
@@ -324,7 +330,7 @@ def main():
     elif given.check:
         check()
     elif given.run:
-        run(given.seed, given.count)
+        run(["programs/tagedit", "bin/tagedit"] if given.proved else ["programs/tagedit"], given.seed, given.count)
     else:
         sys.stdout.buffer.write(output(sys.stdin.buffer.read()))
 

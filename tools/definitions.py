@@ -1,6 +1,6 @@
-"""The definitions of specs/, proofs/ and src/, and which of them each one names: for tools/rests-on and tools/reading-lists.
+"""The definitions of specs/, proofs/ and src/, and the definitions that each of them names: for tools/check-contracts, tools/rests-on and tools/reading-lists.
 
-A name means what the `use` lines of its file make of it, unless something nearer binds it: a parameter, a variable of a pattern, a λ or a `let`."""
+The `use` lines of a file say what a name means, unless something nearer binds the name: a parameter, a variable of a pattern, a λ or a `let`."""
 import collections
 import dataclasses
 import functools
@@ -20,9 +20,9 @@ OPENING, CLOSING = {"(": ")", "{": "}"}, (")", "}")
 
 @dataclasses.dataclass(eq=False)
 class Item:
-    """A definition. `first` and `last` are its lines, from its comment's first on, counted from 1; `typed` is the last line of its type. `statement` are the
-    words of its type, `clauses` those of each clause, field or constructor; `also` are the names that come with it, of constructors and variants;
-    `enclosing` are the `module _` lines around it; `public` says that other files may name it."""
+    """A definition. `first` and `last` are its first and last line, counted from 1, with its comment; `typed` is the last line of its type. `statement` has the
+    words of its type, and `clauses` those of each clause, field or constructor. `also` has the names of its constructors and variants. `enclosing` has the
+    `module _` lines around it. `public` says that other files may name it."""
 
     path: str
     name: str
@@ -49,7 +49,7 @@ def read_lines(path):
 
 
 def tokens_of(text):
-    """The words of a text: names as they stand, fields as '.' and the name, quoted texts left out."""
+    """The words of a text: names unchanged, fields as '.' and the name, without quoted texts."""
     found = []
     for one in TOKEN.finditer("\n".join(COMMENT.sub("", line) for line in text.split("\n"))):
         if one["field"]:
@@ -95,7 +95,7 @@ class Source:
                     self.parts[part].add(name)
 
     def use(self, line):
-        """Takes in one `use` line."""
+        """Adds what one `use` line brings in."""
         if found := re.match(r"(?:pub |unfoldable |ghost )*use ([^{]*?)\.\{(.*)\}\s*;?\s*$", line):
             for one in filter(None, (part.strip() for part in found[2].split(","))):
                 name, _, other = one.partition(" as ")
@@ -108,7 +108,7 @@ class Source:
 
 
 def logical_lines(lines, first, last, indent):
-    """The pieces of lines first..last (from 0) that begin at a column, each with the deeper lines below it; comments and blanks stand alone."""
+    """The pieces of lines first..last (from 0) that begin at a column, each with the deeper lines below it. A comment line or a blank line is a piece by itself."""
     at = first
     while at < last:
         end = at + 1
@@ -177,7 +177,7 @@ def read_block(source, lines, first, last, indent, enclosing):
 
 
 def declaration(text):
-    """Kind, name, tokens of the type, clauses and further names of a declaration; None for a clause."""
+    """The kind, the name, the tokens of the type, the clauses and the further names of a declaration; None for a clause."""
     words = tokens_of(text)
     marks = []
     while words and words[0] in MARKS:
@@ -283,7 +283,7 @@ def files_of(crate, part):
 
 
 def rt_file(crate, modules):
-    """The file of src/ that holds a module, and None where there is none."""
+    """The file of src/ that holds a module, or None if there is none."""
     for name in ["/".join(modules)] if modules else ["lib", "main"]:
         path = os.path.join("crates", crate, "src", name + ".rt")
         if os.path.exists(os.path.join(ROOT, path)):
@@ -298,7 +298,7 @@ def declared_type(crate, path):
 
 
 def contract_of(crate, path):
-    """The contract of a function, by the path that the kit's generated modules have: modules, perhaps a type, and the function's name."""
+    """The contract of a function. `path` is that of the kit's generated modules: modules, perhaps a type, and the function's name."""
     for split in range(len(path)):
         source = rt_file(crate, path[:split])
         if source and (found := read_rt(source).items.get("fn " + ".".join(path[split:]))):
@@ -307,7 +307,7 @@ def contract_of(crate, path):
 
 
 def meaning(module, name):
-    """The definition that a name of a module is; None where it is the kit's."""
+    """The definition that a module's name stands for; None if the name is the kit's."""
     found = re.match(r"Rattle·(\w+)(?:·(?:specs|proofs))?\.(specs|proofs)\.(.+)$", module)
     if not found:
         return None
@@ -323,12 +323,12 @@ def meaning(module, name):
             return source.items[name]
         if name in source.brought:
             return meaning(*source.brought[name])
-    # what the kit makes of a function or a type: it says what the function's contract or the type says
+    # the kit makes such a name of a function or a type, and it says what the function's contract or the type says
     return contract_of(crate, path[:-1]) or contract_of(crate, path) or declared_type(crate, path) or declared_type(crate, path[:-1])
 
 
 def resolve(source, name):
-    """What a name in a file is: a definition, or ('kit', module, name); None where the file doesn't say."""
+    """What a name in a file stands for: a definition, or ('kit', module, name); None if the file doesn't say."""
     name = plain(name)
     if name in source.items:
         return source.items[name]
@@ -354,7 +354,7 @@ def resolve(source, name):
 
 
 class Names:
-    """The free names of a definition's tokens, as its file means them."""
+    """The free names of a definition's tokens, with the meaning that its file gives them."""
 
     def __init__(self, source):
         self.source = source
@@ -377,14 +377,14 @@ class Names:
                 self.found[meant] = None
 
     def is_variable(self, name):
-        """In a pattern a name is a variable, unless it is a constructor's."""
+        """Whether a name in a pattern is a variable: it is, unless it names a constructor."""
         meant = resolve(self.source, name)
         if isinstance(meant, Item):
             return plain(name).rpartition(".")[2] not in meant.also
         return meant is None and name not in self.source.parts
 
     def pattern(self, tokens, bound):
-        """Adds the variables of a pattern to what is bound; takes the constructors. A type after ':' is walked."""
+        """Adds the variables of a pattern to `bound`, and collects its constructors. A type after ':' is walked."""
         at = 0
         while at < len(tokens):
             one = tokens[at]
@@ -407,7 +407,7 @@ class Names:
             at += 1
 
     def walk(self, tokens, bound):
-        """Takes the free names of an expression. What a binder binds holds to the end of the brackets around it."""
+        """Collects the free names of an expression. What a binder binds is bound up to the end of the brackets around it."""
         at, waiting = 0, []
         while at < len(tokens):
             one = tokens[at]
@@ -442,7 +442,7 @@ class Names:
             at += 1
 
     def fields(self, tokens, bound):
-        """The parts of a record literal or type, or an implicit argument by name."""
+        """Walks the parts of a record literal or type, or an implicit argument by name."""
         for piece in split_at(tokens, ";"):
             named = len(piece) > 1 and piece[1] in ("=", ":")
             self.walk(piece[2:] if named else piece, set(bound))
@@ -450,7 +450,7 @@ class Names:
                 bound.add(piece[0])
 
     def clause(self, tokens, bound, own):
-        """A clause: what its left side binds holds on its right side."""
+        """Walks a clause: what its left side binds is bound on its right side."""
         end = until(tokens, 0, ("=",))
         left = [one for one in tokens[:end] if one != own]
         self.pattern(left, bound)
@@ -474,7 +474,7 @@ class Names:
 
 
 def binders(tokens):
-    """The names of '(x y : T)', where the tokens between the brackets are such."""
+    """The names x and y of '(x y : T)', if the tokens between the brackets have that form; otherwise none."""
     names = []
     for one in tokens:
         if one == ":":
@@ -486,7 +486,7 @@ def binders(tokens):
 
 
 def group(tokens, at):
-    """The tokens between a bracket and the one that closes it, and where they go on."""
+    """The tokens between a bracket and the one that closes it, and the index where the text goes on."""
     depth, end = 0, at
     while end < len(tokens):
         depth += (tokens[end] in OPENING) - (tokens[end] in CLOSING)
@@ -497,7 +497,7 @@ def group(tokens, at):
 
 
 def until(tokens, at, wanted):
-    """Where the first of the wanted tokens stands outside brackets."""
+    """The index of the first wanted token outside brackets."""
     depth = 0
     while at < len(tokens):
         if not depth and tokens[at] in wanted:
@@ -508,7 +508,7 @@ def until(tokens, at, wanted):
 
 
 def split_at(tokens, mark):
-    """The pieces between the marks that stand outside brackets."""
+    """The pieces between those marks that are outside brackets."""
     pieces, depth = [[]], 0
     for one in tokens:
         depth += (one in OPENING) - (one in CLOSING)
@@ -525,7 +525,7 @@ def source_of(item):
 
 @functools.cache
 def names_of(item):
-    """What a definition names: other definitions and the kit's names, in order, and the words that the file doesn't explain."""
+    """What a definition names: other definitions and names of the kit, in order; and the words that the file doesn't explain."""
     source = source_of(item)
     names = Names(source)
     if item.kind in ("struct", "enum"):
@@ -555,7 +555,7 @@ def names_of(item):
 
 
 def walk_contract(names, item):
-    """The types and the antt of a function's signature and contract."""
+    """Walks the types of a function's signature, and the antt of its contract."""
     text = item.statement[0]
     head = text.partition("(")[2]
     bound = {found.replace("mut ", "") for found in re.findall(r"\b(\w+): ", text)} | {"self"}
@@ -588,13 +588,13 @@ def rust_type(source, name):
 
 
 def is_theorem(item):
-    """A definition whose clauses nobody reads, since its type says it all."""
+    """Whether a definition is a theorem: its clauses need not be read, since its type says all."""
     return item.kind in ("plain", "axiom") and "/proofs/" in item.path and any(one in item.statement for one in ("≡", "<", "≤"))
 
 
 @functools.cache
 def statement_of(item):
-    """A theorem without its proof; any other definition as it is."""
+    """A theorem without its proof; any other definition unchanged."""
     if item.kind not in ("plain", "axiom"):
         return item
     return dataclasses.replace(item, last=item.typed, clauses=[])
@@ -606,8 +606,8 @@ class Lost(Exception):
 
 @functools.cache
 def contracts():
-    """The propositions that some function's `ensures` cites: what its contract says. The check proves the function to meet its own, whatever it says; so a
-    theorem that takes it speaks of the function's outcomes by its conclusion alone."""
+    """The propositions that the `ensures` of some function cites. Such a proposition says what the function's contract is. The check proves that the function
+    meets it, whatever it says. So the conclusion alone of a theorem that takes it speaks of the function's outcomes."""
     cited = set()
     for crate in crates():
         for path in files_of(crate, "src"):
@@ -622,8 +622,8 @@ def is_contract(item):
 
 
 def rests_on(starts, whole=False):
-    """The definitions that the statements of `starts` rest on, the statements among them, by file in reading order; the kit's names with their modules; the
-    words that no file brings in, which are the prelude's; and the contracts that were met on the way. With `whole` contracts are followed like any other."""
+    """Four things: the definitions that the statements of `starts` rest on, with these statements, by file in reading order; the kit's names with their modules;
+    the words that no file brings in, which are the prelude's; and the contracts met on the way. With `whole` contracts are followed like any other."""
     uses, kit, unknown, met = {}, set(), set(), set()
     todo = [statement_of(item) for item in starts]
     while todo:
@@ -646,12 +646,12 @@ def rests_on(starts, whole=False):
 
 
 def place(item):
-    """The group that an item is listed in: a file of src/ has its types first and its contracts apart."""
+    """The group that lists an item: its file. In a file of src/ the types and the contracts are two groups."""
     return item.path, item.kind == "contract"
 
 
 def ordered(uses):
-    """The items by group, a group after those that it uses; of groups that wait for nothing the first by name comes first."""
+    """The items by group. Each group comes after the groups that it uses; among groups that can come next, the first one in the order of `order_of_crates` does."""
     groups = collections.defaultdict(list)
     for item in uses:
         groups[place(item)].append(item)
@@ -673,7 +673,7 @@ def crates():
 
 
 def order_of_crates(group):
-    """Crates in the order of crates.txt; of a crate its types, specs, contracts and proofs."""
+    """The order of groups: crates as in crates.txt, and in a crate its types, specs, contracts and proofs."""
     path, contracts = group
     crate, part = path.split("/")[1:3]
     known = crates().index(crate) if crate in crates() else len(crates())
@@ -681,7 +681,7 @@ def order_of_crates(group):
 
 
 def lines_of(items):
-    """How many lines there are to read: each definition with its comment, no blank line."""
+    """The number of lines to read: each definition with its comment, without blank lines."""
     return len({(item.path, n) for item in items for n in range(item.first, item.last + 1) if read_lines(item.path)[n - 1].strip()})
 
 
@@ -689,7 +689,7 @@ def lines_of(items):
 
 
 def find(start):
-    """The items that FILE:NAME, CRATE:NAME or NAME stands for; FILE and NAME may have '*', which finds public ones alone."""
+    """The items that FILE:NAME, CRATE:NAME or NAME stands for. FILE and NAME may have '*'; with a '*' in NAME only public items are found."""
     where, _, name = start.rpartition(":")
     pattern = re.compile("[^ ]*".join(map(re.escape, name.split("*"))) + "$")
     if where.endswith((".antt", ".rt")):

@@ -1,4 +1,4 @@
-/* Places on the reference and its bases: no words, starts and kinds that BAM has not, rooms one short. */
+/* Places on the reference, and its bases: no CIGAR words, starts and kinds that BAM does not have, outputs one entry too short. */
 #include "exports.h"
 
 static void try_positions(void)

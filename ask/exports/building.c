@@ -1,13 +1,13 @@
-/* Building: modes and strands that there are not, flags of every bit, each output one short by itself. */
+/* Building: modes and numbers of strands that do not exist, flags with every bit, each output by itself one entry too short. */
 #include "exports.h"
 
-/* Evidence for one call in two, at each position. */
+/* Evidence with one unconverted and one converted read at each position. */
 static struct columns strand_of(size_t n)
 {
     return columns_of(n, 1, 1);
 }
 
-/* A strand that a record lacks: nothing of it may be looked at. */
+/* A strand that the record does not have: the call may not look at any of its rows. */
 static struct columns strand_in_page(void)
 {
     struct columns s;
@@ -49,7 +49,7 @@ static void try_build(void)
 
 /* The eleven outputs, in the order of AQL_DUPLEX_SEQ to AQL_DUPLEX_SECOND_CONVERTED. */
 static const size_t widths[AQL_DUPLEX_LENGTHS] = {1, 1, 1, 2, 2, 1, 2, 2, 1, 2, 2};
-/* What `tg` with both strands fills of each: C+m?,0;G-m?,0; and so on. */
+/* How many entries of each output `tg` with both strands fills: C+m?,0;G-m?,0; and so on. */
 static const size_t filled[AQL_DUPLEX_LENGTHS] = {2, 14, 2, 2, 2, 7, 2, 2, 7, 2, 2};
 
 static uint8_t duplex(struct row *bases, size_t strands, uint8_t mode, struct columns first, struct columns second, struct row **out,
@@ -60,7 +60,7 @@ static uint8_t duplex(struct row *bases, size_t strands, uint8_t mode, struct co
                                        as_size(lengths));
 }
 
-/* Outputs with just the room that is needed, but for number `which`, which is one short. */
+/* Outputs with exactly the room that is needed, except output `which`, which is one entry too short. */
 static void outputs(struct row **out, size_t which)
 {
     size_t i;

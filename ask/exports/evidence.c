@@ -1,4 +1,4 @@
-/* The evidence of a consensus: columns that are NULL or disagree, each output one short by itself, lengths over every bound. */
+/* The evidence of a consensus: columns that are NULL or disagree, each output by itself one entry too short, lengths above every bound. */
 #include "exports.h"
 
 /* Evidence whose unconverted count is more than the cu tag holds. */
@@ -7,7 +7,7 @@ static struct columns some_columns(size_t n)
     return columns_of(n, 40000, 3);
 }
 
-/* Columns to write to, of which number `which` is one entry short. */
+/* Columns to write to, of which column `which` is one entry too short. */
 static struct columns room_for(size_t n, size_t which)
 {
     struct columns c;
@@ -33,7 +33,7 @@ static void try_annotate(void)
             aql_annotate_simplex_methylation(SIZE_MAX, U32(lengths), U8(bases), U8(reference), 0, U8(aligned), 0, COLUMNS(out), as_size(n)));
     REFUSES(AQL_LENGTHS_DISAGREE,
             aql_annotate_simplex_methylation(2, U32(lengths), U8(bases), U8(reference), 0, U8(reference), 0, COLUMNS(out), as_size(n)));
-    /* Lengths whose sum passes 32 bits: kept in 32 it would be the four bases that there are. */
+    /* Lengths whose sum needs more than 32 bits: in 32 bits the sum would be 4, the number of bases. */
     REFUSES(AQL_LENGTHS_DISAGREE,
             aql_annotate_simplex_methylation(2, U32(huge), U8(bases), U8(reference), 0, U8(aligned), 0, COLUMNS(out), as_size(n)));
     REFUSES(AQL_LENGTHS_DISAGREE,

@@ -1,6 +1,6 @@
-/* `exports`: calls every export of the C library's archive in the ways that only C can: rows that are NULL, each output one entry short by itself,
- * numbers that no enum or Bool of Rattle could hold, and as many bases as the domain takes. Each row stands against an untouchable page, behind it in
- * one turn and before it in the next. tools/run-exports builds and starts it; its last line counts what was expected.
+/* `exports`: calls every export of the C library's archive in the ways that only C can: rows that are NULL, each output by itself one entry too short,
+ * numbers that no enum or Bool of Rattle could hold, and as many bases as the domain allows. An untouchable page is next to each row, behind it in one
+ * turn and before it in the next. tools/run-exports builds and starts the program; its last line says how many checks were made.
  */
 #include "exports.h"
 

@@ -1,4 +1,4 @@
-/* The edit session and the transcript: lengths over every bound, rows that are NULL, cuts whose sum passes 32 bits. */
+/* The edit session and the transcript: lengths above every bound, rows that are NULL, cuts whose sum needs more than 32 bits. */
 #include "exports.h"
 
 /* A session on CAC, with its lengths. The rows are longer by one byte, which no step may look at. */
@@ -20,7 +20,7 @@ static struct session session_of(size_t seq, size_t mm, size_t ml)
 #define ROWS(s) U8((s).seq), U8((s).mm), U8((s).ml), some_yes(), as_size((s).lengths)
 #define NO_ML(s, page) U8((s).seq), U8((s).mm), U8(page), 0, as_size((s).lengths)
 
-/* Every call of a session refuses these lengths alike. */
+/* Every call of a session refuses these lengths with this number, except a cut of an empty SEQ. */
 static void refuse_lengths(uint8_t number, size_t seq, size_t mm, size_t ml)
 {
     struct session s;
@@ -33,7 +33,7 @@ static void refuse_lengths(uint8_t number, size_t seq, size_t mm, size_t ml)
     REFUSES(number, aql_session_open(ROWS(s), as_size(groups), as_size(calls)));
     REFUSES(number, aql_session_mask(ROWS(s), U32(places)));
     REFUSES(number, aql_session_drop_calls(ROWS(s), U32(places)));
-    /* A base cut off no bases is refused before the text is read. */
+    /* A cut of a base from an empty SEQ is refused before the text is read. */
     REFUSES(seq == 0 ? AQL_NO_WINDOW : number, aql_session_cut(ROWS(s), 1, 0));
 }
 
@@ -51,7 +51,7 @@ static void try_lengths(void)
     refuse_lengths(AQL_ML_LEFT_OVER, 3, 9, 3);
 }
 
-/* A session of nothing: its text lacks the final ';', and there is no base to cut. */
+/* An empty session: its text lacks the final ';', and there is no base to cut. */
 static void try_nothing(void)
 {
     static const size_t nothing[AQL_SESSION_LENGTHS] = {0, 0, 0};
@@ -96,7 +96,7 @@ static void try_open(void)
     KEPT("aql_session_open");
 }
 
-/* What a step left, and that it changed nothing past it. */
+/* Checks what a step left, and that it changed nothing past the new lengths. */
 static void left(const char *step, struct session s, const char *seq, const char *mm, const char *ml)
 {
     expect_text(step, s.seq, said(s.lengths, AQL_SESSION_SEQ), seq);
@@ -158,7 +158,7 @@ void try_session(void)
     try_steps_without_ml();
 }
 
-/* The rows to work in may be left in any way; the output is filled at its front and stays as it was behind. */
+/* The work rows may hold anything afterwards. The front of the output is filled, and the rest is unchanged. */
 static void transcribed(struct row *input, const char *wanted)
 {
     struct row *seq = row_of(1, 16000), *mm = row_of(1, 65536), *ml = row_of(1, 32768), *out = row_of(1, AQL_TRANSCRIPT_OUT);

@@ -1,4 +1,4 @@
-/* The exports that take and give single numbers, over every byte, mode and flag; and the CpG context. */
+/* The exports that take and return single numbers, for every byte, mode and flag; and the CpG context. */
 #include "exports.h"
 
 static uint8_t upper(unsigned b)
@@ -48,7 +48,7 @@ static void try_modes(void)
     }
 }
 
-/* One more than a count, and never over the largest. */
+/* One more than a count, and at most the largest count. */
 static uint32_t raised(uint32_t count, int by_one)
 {
     return by_one && count < UINT32_MAX ? count + 1 : count;

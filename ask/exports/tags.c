@@ -1,5 +1,5 @@
-/* Reading and rewriting a tag: rows that are NULL, rows without ML that may not be looked at, each output one short by itself, starts and places over
- * every bound. */
+/* Reading and rewriting a tag: rows that are NULL, an ML row that the call may not look at, each output by itself one entry too short, starts and
+ * places above every bound. */
 #include "exports.h"
 
 /* A tag on CAC with a call on each C, and its ML; and one without ML. */
@@ -32,7 +32,7 @@ static void try_check(struct tag t, struct row *groups, struct row *calls)
     expect("calls", said(calls, 0), 2);
 }
 
-/* Columns of two entries, but for number `which`, which has one. */
+/* Columns of two entries, except column `which`, which has one. */
 static uint8_t listed(struct tag t, struct row *ml, uint8_t has_ml, size_t which, struct row **columns, struct row *groups, struct row *calls)
 {
     size_t i;

@@ -1,17 +1,14 @@
-/* An edit session from C: opens a session on a read's SEQ, MM and ML, masks, drops and cuts, and prints what is left after each step; then a drop that
- * is refused and changes nothing, on a tag without ML; and at the end the calls that are left, as a list.
+/* An edit session from C. It opens a session on a read's SEQ, MM and ML, masks, drops and cuts, and prints the read after each step. Then a drop on a
+ * tag without ML is refused and changes nothing. At the end it lists the remaining calls.
  *
- * Exit status 1 where any answer is not the one that is expected. tools/run-examples builds and runs it; by hand, on x86-64:
- *
- *     rt staticlib taglib
- *     cc -Iinclude examples/c/session.c target/staticlib/libtaglib.a -o session && ./session
- */
+ * The exit status is 1 if any answer is not the expected one. `tools/build archive` makes the library, and `examples/run c` compiles
+ * this program with it and runs it. */
 #include <stdio.h>
 #include <string.h>
 
 #include "aquiledru.h"
 
-/* More than the longest tag of this example: a session's rows may be longer than what they hold. */
+/* More than the longest tag of this example: a session's rows may be longer than their contents. */
 #define ROOM 32
 
 struct tagged_read {
@@ -40,7 +37,7 @@ static void expect_same(const char *what, int same)
     }
 }
 
-/* Lays a text at the front of a row and answers its length. */
+/* Copies a text to the front of a row and returns its length. */
 static size_t lay(uint8_t row[ROOM], const char *text)
 {
     size_t n = strlen(text);
@@ -64,7 +61,7 @@ static void print_read(const struct tagged_read *r)
     printf("\n");
 }
 
-/* Every call of the session takes the three rows, each with its room, and the lengths. */
+/* The first arguments of every call of the session: the three rows, each with its room, then has_ml (1) and the lengths. */
 #define ROWS(r) (r)->seq, ROOM, (r)->mm, ROOM, (r)->ml, ROOM, 1, (r)->lengths
 
 static void mask_drop_and_cut(struct tagged_read *r)
@@ -84,11 +81,11 @@ static void mask_drop_and_cut(struct tagged_read *r)
     expect_same("the number of calls", groups == 1 && calls == 3);
     print_read(r);
 
-    /* The base at 1 becomes N: its call goes, and it counts in no later skip. */
+    /* The base at 1 becomes N: its call is removed, and the base counts in no later skip. */
     expect("mask 1", aql_session_mask(ROWS(r), low_quality, 1), AQL_DONE);
     print_read(r);
 
-    /* The call at 5 goes, but its base stays: it still counts in the next skip. */
+    /* The call at 5 is removed, but its base stays: the base still counts in the next skip. */
     expect("drop 5", aql_session_drop_calls(ROWS(r), blacklisted, 1), AQL_DONE);
     print_read(r);
 
@@ -100,7 +97,7 @@ static void mask_drop_and_cut(struct tagged_read *r)
     print_read(r);
 }
 
-/* Under '.' an unlisted C is said to be unmodified, so that no call can be dropped. This tag has no ML: has_ml is 0, and the row is empty. */
+/* With the mark '.' an unlisted C means unmodified, so no call can be dropped. This tag has no ML: has_ml is 0, and the row is empty. */
 static void refused_drop(void)
 {
     static const uint32_t places[] = { 1 };

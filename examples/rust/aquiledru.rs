@@ -1,7 +1,7 @@
-//! The edit session of Aquiledru's C library for Rust: `Session` owns its rows, and what the C library asks of its caller (rows as long as is said,
-//! nothing that overlaps) holds by their types. Add the library's other calls in the same way, from include/aquiledru.h.
+//! The edit session of Aquiledru's C library for Rust. `Session` owns its rows. The C library requires of its caller that rows are as long as their
+//! lengths say and that nothing overlaps; here the types guarantee both. Add the library's other calls in the same way, from include/aquiledru.h.
 
-/// Why a call did nothing: the numbers of include/aquiledru.h. The last two are no refusals, but nothing is done with them either.
+/// Why a call did nothing: the numbers of include/aquiledru.h. The last two are not refusals, but the call did nothing there either.
 #[derive(Clone, Copy, Debug, PartialEq, Eq)]
 pub enum Refusal {
     TooLong,
@@ -147,7 +147,7 @@ pub struct Counts {
     pub calls: usize,
 }
 
-/// A call: its group, counted from 1, its place in SEQ, counted from 0, and where its values start in ML.
+/// A call: its group (from 1), its place in SEQ (from 0), and the start of its values in ML.
 #[derive(Clone, Copy, Debug, PartialEq, Eq)]
 pub struct Call {
     pub group: u32,
@@ -155,7 +155,7 @@ pub struct Call {
     pub start: u32,
 }
 
-/// SEQ, MM and ML in three rows, and how much of each the session holds. A refused step leaves all of it as it was.
+/// SEQ, MM and ML in three rows, and how much of each the session holds. A refused step changes nothing.
 #[derive(Clone, Debug, PartialEq, Eq)]
 pub struct Session {
     seq: Vec<u8>,
@@ -165,7 +165,7 @@ pub struct Session {
     lengths: [usize; 3],
 }
 
-/// A session's rows as a step takes them: where each begins, and how long it is.
+/// A session's rows as a step takes them: the pointer and the length of each.
 struct Rows {
     seq: (*mut u8, usize),
     mm: (*mut u8, usize),
@@ -174,7 +174,7 @@ struct Rows {
 }
 
 impl Session {
-    /// Opens a session on a tag with an ML or without.
+    /// Opens a session on a tag with or without ML.
     pub fn open(seq: Vec<u8>, mm: Vec<u8>, ml: Option<Vec<u8>>) -> Result<(Session, Counts), Refusal> {
         let has_ml = ml.is_some();
         let ml = ml.unwrap_or_default();
@@ -216,14 +216,14 @@ impl Session {
         Rows { seq: row(&mut self.seq), mm: row(&mut self.mm), ml: row(&mut self.ml), has_ml: self.has_ml.into() }
     }
 
-    /// Writes N to the places of SEQ; the calls on these bases go, and they count in no later skip.
+    /// Writes N to the places of SEQ. Except in a group on N, the calls on these bases are removed, and the bases count in no later skip.
     pub fn mask(&mut self, places: &[u32]) -> Result<(), Refusal> {
         let Rows { seq, mm, ml, has_ml } = self.rows();
-        // SAFETY: rows and lengths are borrowed for writing by `self` and are three Vecs and an array, so that none overlaps another or the places.
+        // SAFETY: the rows and the lengths are three Vecs and an array, all borrowed for writing with `self`, so none overlaps another or the places.
         answer(unsafe { aql_session_mask(seq.0, seq.1, mm.0, mm.1, ml.0, ml.1, has_ml, &mut self.lengths, places.as_ptr(), places.len()) })
     }
 
-    /// Drops the calls at the places; SEQ stays, so that their bases still count in later skips.
+    /// Drops the calls at the places. SEQ is unchanged, so their bases still count in later skips.
     pub fn drop_calls(&mut self, places: &[u32]) -> Result<(), Refusal> {
         let Rows { seq, mm, ml, has_ml } = self.rows();
         // SAFETY: as in `mask`; SEQ is only read.
@@ -237,7 +237,7 @@ impl Session {
         answer(unsafe { aql_session_cut(seq.0, seq.1, mm.0, mm.1, ml.0, ml.1, has_ml, &mut self.lengths, front, back) })
     }
 
-    /// The calls that the tag has, in order.
+    /// The calls of the tag, in order.
     pub fn calls(&self) -> Result<Vec<Call>, Refusal> {
         let (seq, mm, ml) = (self.seq(), self.mm(), self.ml().unwrap_or_default());
         let has_ml = self.has_ml.into();

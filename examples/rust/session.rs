@@ -1,14 +1,11 @@
-//! The example of examples/c/session.c in Rust, over the wrapper of aquiledru.rs; it prints the same. tools/run-examples builds and runs it where a
-//! Rust for x86-64 is at hand; by hand:
-//!
-//!     rt staticlib taglib
-//!     rustc --edition 2021 -L native=target/staticlib examples/rust/session.rs && ./session
+//! The example of examples/c/session.c in Rust, over the wrapper of aquiledru.rs. It prints the same.
+//! `tools/build archive` makes the library, and `examples/run rust` compiles this program with it and runs it.
 mod aquiledru;
 
 use aquiledru::{Call, Counts, Refusal, Session};
 use std::process::ExitCode;
 
-/// Prints a call's number, and says whether it is the one that is expected.
+/// Prints a call's number, and returns whether it is the expected one.
 fn expect(call: &str, answer: Result<(), Refusal>, wanted: Result<(), Refusal>) -> bool {
     println!("{}: {}", call, answer.map_or_else(Refusal::number, |()| 0));
     answer == wanted
@@ -30,11 +27,11 @@ fn mask_drop_and_cut() -> Result<(Session, bool), Refusal> {
     let mut good = counts == Counts { groups: 1, calls: 3 };
     print_session(&session);
 
-    // The base at 1 becomes N: its call goes, and it counts in no later skip.
+    // The base at 1 becomes N: its call is removed, and the base counts in no later skip.
     good &= expect("mask 1", session.mask(&[1]), Ok(()));
     print_session(&session);
 
-    // The call at 5 goes, but its base stays: it still counts in the next skip.
+    // The call at 5 is removed, but its base stays: the base still counts in the next skip.
     good &= expect("drop 5", session.drop_calls(&[5]), Ok(()));
     print_session(&session);
 
@@ -47,7 +44,7 @@ fn mask_drop_and_cut() -> Result<(Session, bool), Refusal> {
     Ok((session, good))
 }
 
-/// Under '.' an unlisted C is said to be unmodified, so that no call can be dropped. This tag has no ML.
+/// With the mark '.' an unlisted C means unmodified, so no call can be dropped. This tag has no ML.
 fn refused_drop() -> Result<bool, Refusal> {
     let (mut session, _) = Session::open(b"ACCGT".to_vec(), b"C+m.,0,0;".to_vec(), None)?;
     let before = session.clone();

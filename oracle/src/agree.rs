@@ -1,7 +1,7 @@
-//! Whether an answer in document 01's numbers is what the Rust's answer to the same request asks for.
+//! Whether an answer in the scope's numbers (docs/SCOPE.md) agrees with the Rust's answer to the same request.
 //!
-//! The differences that 01 names are known here by their names. What the request itself shows is looked at in
-//! 01's order: its form, 13, 1, 2, a session's 11, 3 and 4. All else is taken from the Rust's answer.
+//! The differences that the scope names have names here. What the request itself shows is checked first, in
+//! the scope's order: its form, 13, 1, 2, a session's 11, 3 and 4. All else is taken from the Rust's answer.
 
 use crate::calls::{Effort, are_calls};
 use crate::form::{Call, Kind, Request, joined_length, list_length, row_length};
@@ -29,13 +29,13 @@ const MOST_BYTES: usize = 65_536;
 const MOST_READS: usize = 4_096;
 const MOST_READ_BASES: usize = 1_048_576;
 const MOST_WORDS: usize = 65_535;
-/// A shorter line can't pass the program's buffers.
+/// A shorter line can't be larger than the program's buffers.
 const LONG_LINE: usize = 8_000;
 
 #[derive(Clone, Copy, Debug, PartialEq, Eq)]
 pub enum Verdict {
     Equal,
-    /// A difference that 01 names.
+    /// A difference that the scope names.
     Named(&'static str),
     Disagreement,
 }
@@ -48,7 +48,7 @@ fn named_if(agrees: bool, name: &'static str) -> Verdict {
     if agrees { Verdict::Named(name) } else { Verdict::Disagreement }
 }
 
-/// An answer held against the Rust's answer line, which was found with that effort.
+/// Compares an answer with the Rust's answer line, which was found with that effort.
 #[must_use]
 pub fn verdict(line: &str, rust: &str, answer: &str, effort: Effort) -> Verdict {
     let asked = Request::of(line);
@@ -67,7 +67,7 @@ pub fn verdict(line: &str, rust: &str, answer: &str, effort: Effort) -> Verdict 
         .unwrap_or_else(|| asked.shown_by_rust(rust, answer, effort))
 }
 
-/// A request of the form.
+/// A request that has the form of its call.
 struct Asked<'a> {
     request: &'a Request<'a>,
     call: &'static Call,
@@ -157,7 +157,7 @@ impl<'a> Asked<'a> {
         }
     }
 
-    /// 2 is the Rust's None for a mask, its panic where it asserts, or what can't be put to it.
+    /// For 2 the Rust gives None in a mask, an answer in ANN, or a panic at an assert, or it can't take the request.
     fn unequal(&self, rust: &str) -> Verdict {
         match self.call.name {
             "MASK" if rust == "?" => named_if(!self.is_utf8(), NOT_UTF8),
@@ -185,7 +185,7 @@ impl<'a> Asked<'a> {
 
     // ---- What the text shows: 3 and 4 ---------------------------------------------------------
 
-    /// MM in hex, of a session the part that its length names; nothing where the call takes none.
+    /// MM in hex, for a session only as far as its length says; None if the call takes no MM.
     fn mm(&self) -> Option<&'a str> {
         let field = self.of_kinds(&[Kind::Text]).next()?;
         let field = if field == "." { "" } else { field };
@@ -236,7 +236,7 @@ impl<'a> Asked<'a> {
         }
     }
 
-    /// Whether a text that ends in ';' can have this number. 8 and 9 take an ML, and 10 a drop.
+    /// Whether a text that ends in ';' can be refused with this number. 8 and 9 need an ML, 10 needs a drop.
     fn may_be_refused_with(&self, answer: &str) -> bool {
         match answer {
             "5" | "6" | "7" => true,
@@ -246,7 +246,7 @@ impl<'a> Asked<'a> {
         }
     }
 
-    /// The Rust's bytes where they fit the room, else 12.
+    /// The answer must be the Rust's bytes if they fit the room, and 12 if they don't.
     fn answered(&self, rust: &str, answer: &str) -> Verdict {
         let lent = self.request.sizes().unwrap_or_default();
         let needed = needed(self.request, rust);
@@ -257,7 +257,7 @@ impl<'a> Asked<'a> {
             _ if answer == rust => Verdict::Equal,
             "FETCH" => named_if(answer == zero_bases_as_missing(rust), ZERO_BASE),
             "CALLS" => {
-                // The driver did not derive them, so what is listed is put to the Rust.
+                // The driver did not derive the calls, so the Rust confirms the list.
                 let listed = answer.strip_prefix(rust).and_then(|rest| rest.strip_prefix('\t'));
                 named_if(listed.is_some_and(|calls| are_calls(&self.request.fields, calls)), LONG_CALLS)
             }
@@ -270,20 +270,20 @@ fn words(field: &str) -> impl Iterator<Item = u64> {
     field.split(',').filter_map(small).map(u64::from)
 }
 
-/// The Rust's fetched bases as 01 writes them.
+/// The Rust's fetched bases as the scope writes them.
 fn zero_bases_as_missing(rust: &str) -> String {
     let found = rust.strip_prefix("0\t").unwrap_or_default();
     let shown: Vec<&str> = found.split(',').map(|base| if base == "00" { "-" } else { base }).collect();
     format!("0\t{}", shown.join(","))
 }
 
-/// The least room that takes the Rust's answer 0, in the order in which a request lends it; an ML that is not
-/// there takes none.
+/// The least room for the Rust's answer 0, in the order in which a request lends it. Without ML the room for
+/// ML is 0.
 #[must_use]
 pub fn needed(request: &Request, rust: &str) -> [usize; 2] {
     let fields: Vec<&str> = rust.split('\t').skip(1).collect();
     match (request.name, &fields[..]) {
-        // An entry of a text that is accepted is a call.
+        // Each entry of an accepted text is a call.
         ("CALLS", _) => [request.fields[0].as_bytes().chunks(2).filter(|pair| pair == b"2c").count(), 0],
         ("Q" | "FETCH" | "CNT", [first, ..]) => [list_length(first), 0],
         ("BUILD" | "MASK" | "DROP" | "CUT", [mm, ml]) => [row_length(mm), row_length(ml)],

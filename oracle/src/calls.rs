@@ -1,4 +1,4 @@
-//! One function for each call of the protocol, over the functions of the originals.
+//! One function for each call of the protocol, which calls the functions of the originals.
 
 use crate::MethylationMode;
 use crate::exits;
@@ -20,17 +20,17 @@ use crate::vanilla_caller::SourceRead;
 use fgumi_raw_bam::{RawTagsEditor, SamTag, aux_data_slice, find_array_tag, find_string_tag, new_record};
 use noodles::sam::alignment::record::cigar::op::Kind;
 
-/// Derived calls are told apart by ML values that all differ.
+/// The most ML values for deriving calls: all must differ, since they tell the calls apart.
 const MOST_ML_FOR_CALLS: usize = 255;
 
-/// What the driver puts to the Rust, and for what it makes further runs, to find out what the Rust does not say.
+/// Which requests the driver passes to the Rust, and when it makes further runs to find what the Rust does not say.
 #[derive(Clone, Copy)]
 pub struct Effort {
-    /// A query or consensus beyond this isn't put to the Rust, which would take gigabytes for 268435455M.
+    /// A longer query or consensus isn't passed to the Rust, which would take gigabytes for 268435455M.
     largest_query: usize,
-    /// A refusal's number is looked for in MM of at most so many bytes: it costs runs in the square of them.
+    /// The longest MM for which a refusal's number is searched; the cost grows with the square of its bytes.
     pub longest_numbered: usize,
-    /// Calls are derived by one run for each group and place, so only where their product is no more.
+    /// The most groups times places for which calls are derived, by one run for each group and place.
     most_runs_for_calls: usize,
 }
 
@@ -38,7 +38,7 @@ pub const WHOLE: Effort =
     Effort { largest_query: 100_000, longest_numbered: 400, most_runs_for_calls: 4_096 };
 pub const QUICK: Effort = Effort { largest_query: 16_000, longest_numbered: 0, most_runs_for_calls: 0 };
 
-/// The Rust's answer to a request; nothing where the request can't be put to it.
+/// The Rust's answer to a request; None if the request can't be passed to it.
 #[must_use]
 pub fn answer(line: &str, effort: Effort) -> Option<Reply> {
     let request = Request::of(line);
@@ -106,7 +106,7 @@ fn cpg(fields: &[&str]) -> Option<Reply> {
     done([u8::from(yes).to_string()])
 }
 
-/// A reference of one sequence, with or without the Rust's short way to it.
+/// A reference of one sequence; with `whole` the Rust gets the sequence at once, without it base by base.
 struct Reference {
     bases: Vec<u8>,
     whole: bool,
@@ -163,7 +163,7 @@ fn pattern_of_flags(fields: &[&str]) -> Option<Reply> {
     done([letter.to_string(), show_bytes(&[reference, unconverted, converted])])
 }
 
-/// Three columns as the Rust's evidence; columns of unequal length are none.
+/// Three columns as the Rust's evidence; None if they differ in length.
 fn annotation(letter: &str, inf: &str, unc: &str, con: &str) -> Option<MethylationAnnotation> {
     let (pattern, inf) = (pattern(letter)?, bytes(inf)?);
     let (unc, con) = (list(unc, small)?, list(con, small)?);
@@ -190,8 +190,8 @@ fn columns(annotation: &MethylationAnnotation) -> Option<Reply> {
     ])
 }
 
-/// The aligned bytes by read: where their total is that of the bases, as many for each read as it has
-/// bases; otherwise as the request lists them, which the Rust takes as well.
+/// The aligned bytes by read. If there are as many of them as bases, each read gets as many as it has
+/// bases; otherwise they stay as the request lists them, which the Rust takes as well.
 fn aligned_by_read(reads: &[SourceRead], rows: Vec<Vec<u8>>) -> Vec<Vec<bool>> {
     let truths = |row: &[u8]| row.iter().map(|&b| b != 0).collect::<Vec<bool>>();
     let joined = rows.concat();
@@ -305,12 +305,12 @@ fn duplex(fields: &[&str]) -> Option<Reply> {
 
 // ---- Reading ---------------------------------------------------------------------------------
 
-/// MM, ML and SEQ of a request; no text where MM isn't UTF-8.
+/// MM and ML of a request; None if MM isn't UTF-8.
 fn tag_fields(mm: &str, ml: &str) -> Option<(String, Option<Vec<u8>>)> {
     Some((String::from_utf8(bytes(mm)?).ok()?, absent_or(ml, bytes)?))
 }
 
-/// None for a tag, with its number where runs on the tag's beginnings tell it.
+/// The Rust's None for a tag, with its number if runs on the tag's beginnings show it.
 fn refused(mm: &str, ml: Option<&[u8]>, seq: &[u8], dropped: &[usize], effort: Effort) -> Option<Reply> {
     if mm.len() > effort.longest_numbered {
         return Some(Reply::Refused);
@@ -336,7 +336,7 @@ fn values_taken(mm: &str, seq: &[u8], at_least: usize) -> Option<usize> {
     (at_least..=MOST_ML_FOR_CALLS + 1).find(|&n| accepted(mm, Some(&vec![0; n]), seq))
 }
 
-/// What dropping `place` takes away: whether the last group lost an entry, and which ML values went.
+/// What dropping `place` removes: whether the last group lost an entry, and which ML values went.
 fn taken_by_drop(mm: &str, ml: Option<&[u8]>, seq: &[u8], place: usize) -> Option<(bool, Vec<u8>)> {
     let (left, left_ml) = drop_modifications_at(mm, ml, seq, &[place])?;
     let entries = |text: &str| text.rsplit(';').nth(1).map(|group| group.matches(',').count());
@@ -345,7 +345,7 @@ fn taken_by_drop(mm: &str, ml: Option<&[u8]>, seq: &[u8], place: usize) -> Optio
 }
 
 /// The calls as the Rust sees them, found by dropping one place at a time from the text's first
-/// group, its first two, and so on: what the last of them loses is a call of that group.
+/// group, from its first two groups, and so on: an entry that the last of them loses is a call of that group.
 fn derived_calls(mm: &str, ml: Option<&[u8]>, seq: &[u8]) -> Option<Vec<String>> {
     let mut calls = Vec::new();
     let (mut fewer, mut fewer_taken) = (String::new(), 0);
@@ -387,7 +387,7 @@ pub fn are_calls(fields: &[&str], listed: &str) -> bool {
     confirmed_calls(fields, listed).is_some_and(|calls| show_list(&calls, String::clone) == listed)
 }
 
-/// The calls of a tag that the Rust accepts, if the places and counts of a list are theirs.
+/// The calls of a tag that the Rust accepts, if a list has their places and counts.
 fn confirmed_calls(fields: &[&str], listed: &str) -> Option<Vec<String>> {
     let &[mm, ml, seq] = fields else { return None };
     let ((mm, ml), seq) = (tag_fields(mm, ml)?, bytes(seq)?);
@@ -416,7 +416,7 @@ fn place_and_count(call: &str) -> Option<(usize, usize)> {
     Some((place, count))
 }
 
-/// Whether a group has its calls at these places, as many as it has entries, with so many ML values each: then
+/// Whether a group has its calls at these places, as many as it has entries, with `count` ML values each: if so,
 /// dropping them leaves no entry.
 fn has_calls(group: &str, places: &[usize], count: Option<usize>, seq: &[u8]) -> bool {
     let text = droppable(group);
@@ -472,8 +472,8 @@ enum Trimmed {
     Same,
 }
 
-/// Puts a cut to `trim_clipped_modifications_raw`. An `am` beside MM tells its outcomes apart: its
-/// `00` is respelled, or dropped, by every edit, and it goes only where all tags go.
+/// Passes a cut to `trim_clipped_modifications_raw`. An `am` beside MM tells its outcomes apart: every edit
+/// respells or drops the `00` of `am`, and `am` is removed only if all tags are removed.
 fn trim(mm: &[u8], ml: Option<&[u8]>, before: &[u8], after: &[u8], start: Option<usize>) -> Trimmed {
     const WITNESS: &[u8] = b"N+a?,00;";
     let mut record = new_record(after, false);
@@ -496,7 +496,7 @@ fn trim(mm: &[u8], ml: Option<&[u8]>, before: &[u8], after: &[u8], start: Option
     }
 }
 
-/// None for a tag of a record, which need not be text.
+/// The Rust's None for a tag of a record, which need not be text.
 fn refused_bytes(mm: &[u8], ml: Option<&[u8]>, seq: &[u8], effort: Effort) -> Option<Reply> {
     match std::str::from_utf8(mm) {
         Ok(mm) => refused(mm, ml, seq, &[], effort),
@@ -518,7 +518,7 @@ fn cut(fields: &[&str], effort: Effort) -> Option<Reply> {
 
 // ---- The session's steps ---------------------------------------------------------------------
 
-/// The buffers of a session; the functions of the Rust see their front parts.
+/// The buffers of a session; the Rust's functions get their front parts.
 struct Buffers {
     seq: Vec<u8>,
     mm: Vec<u8>,
@@ -593,7 +593,7 @@ fn drop_step(buffers: Buffers, places: &[usize], effort: Effort) -> Option<Reply
 }
 
 fn cut_step(buffers: Buffers, front: usize, back: usize, effort: Effort) -> Option<Reply> {
-    // A cut of more than there is has no SEQ after it that could be put to the Rust.
+    // A cut of more than SEQ leaves no SEQ that could be passed to the Rust.
     let end = buffers.seq().len().checked_sub(back)?;
     let after = buffers.seq().get(front..end)?.to_vec();
     match trim(buffers.mm(), buffers.ml(), buffers.seq(), &after, Some(front)) {

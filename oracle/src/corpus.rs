@@ -1,4 +1,4 @@
-//! The requests that random ones are made from.
+//! The requests from which random requests are made.
 
 use crate::answer_line;
 use crate::calls::QUICK;
@@ -6,10 +6,10 @@ use crate::random::Random;
 use std::collections::HashMap;
 use std::{fs, io};
 
-/// Lines of more characters come rarely.
+/// Longer lines are picked rarely.
 const LONG_LINE: usize = 4_000;
 const LONG_ONE_IN: usize = 2_000;
-/// So rarely comes a short line to which the Rust doesn't give an answer.
+/// One picked short line in so many is a line that the Rust doesn't answer.
 const REFUSED_ONE_IN: usize = 8;
 
 pub struct Corpus {

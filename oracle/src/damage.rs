@@ -1,8 +1,8 @@
 //! Random and damaged requests, made from those of a corpus.
 //!
-//! A request of the corpus is changed by field, as the kinds of form.rs say. Rows that run in parallel are changed
-//! at the same place and MM and ML in step, so that many requests are still answered with 0; now and then one field
-//! is changed alone, or the line itself.
+//! A request of the corpus is changed field by field, by the fields' kinds (form.rs). Parallel rows are changed at
+//! the same place, and MM and ML together, so that many requests are still answered with 0. Sometimes one field is
+//! changed alone, or the line itself.
 
 use crate::agree::needed;
 use crate::answer_line;
@@ -13,9 +13,9 @@ use crate::random::Random;
 use crate::tag::{Entry, Group, groups, joined};
 use crate::value::{Value, Values};
 
-/// Rows of one request that run in parallel.
+/// The kinds of a request's parallel rows.
 const PARALLEL: [Kind; 3] = [Kind::Bases, Kind::Informative, Kind::Counts];
-/// Repeating makes about so many bytes of MM, or bases of reads, at most: longer lines would take all the time.
+/// The most bytes of MM, or bases of reads, that repeating makes, roughly: longer lines would take all the time.
 const MOST_REPEATED: usize = 6_000;
 
 /// A change of one item.
@@ -43,7 +43,7 @@ fn change<T: Clone>(items: &mut Vec<T>, change: Change, place: usize, new: T) {
     }
 }
 
-/// Repeats the items, from the first again, until there are so many.
+/// Repeats the items, from the first again, until there are `length` of them.
 fn cycle_to<T: Clone>(items: &mut Vec<T>, length: usize) {
     let once = items.len();
     if once > 0 && once < length {
@@ -51,7 +51,7 @@ fn cycle_to<T: Clone>(items: &mut Vec<T>, length: usize) {
     }
 }
 
-/// Cuts a session's buffers to its lengths, so that what is put behind their bytes is seen.
+/// Cuts a session's buffers to its lengths, so that bytes added at their end are not behind spare bytes.
 fn leave_out_spare_bytes(request: &mut Values) {
     if let [seq, mm, ml, (Kind::Lengths, Value::Numbers(lengths)), ..] = &mut request.fields[..] {
         for ((_, value), length) in [seq, mm, ml].into_iter().zip(lengths) {
@@ -73,7 +73,7 @@ impl<'a> Damage<'a> {
         Self { random: Random::new(seed), corpus }
     }
 
-    /// Puts the next request behind what is there, without a line end.
+    /// Appends the next request to the lines, without a line end.
     pub fn write_next(&mut self, lines: &mut Vec<u8>) {
         let begin = lines.len();
         let line = self.corpus.pick(&mut self.random);
@@ -220,7 +220,7 @@ impl<'a> Damage<'a> {
         change(numbers, way, place, self.item(kind));
     }
 
-    /// Changes the reads, and the aligned rows with them where these are as many.
+    /// Changes the reads, and the aligned rows with them if these are as many.
     fn change_reads(&mut self, request: &mut Values) {
         let [.., (_, Value::Rows(reads)), (_, Value::Rows(aligned))] = &mut request.fields[..] else {
             return;
@@ -271,7 +271,7 @@ impl<'a> Damage<'a> {
         if self.random.one_in(3) { length.div_ceil(32) * 32 + self.random.below(3) - 1 } else { length }
     }
 
-    /// Makes rows longer so that what was answered with 0 mostly still is.
+    /// Makes rows longer, so that a request that was answered with 0 mostly still is.
     fn stretch(&mut self, request: &mut Values) {
         let length = self.length();
         if request.call.name == "ANN" {
@@ -325,9 +325,9 @@ impl<'a> Damage<'a> {
         }
     }
 
-    // ---- MM and ML in step ---------------------------------------------------------------------
+    // ---- MM and ML together --------------------------------------------------------------------
 
-    /// Changes the groups of the tag and writes MM and ML; false where the two are not in step.
+    /// Changes the groups of the tag and writes MM and ML; false if the two do not fit each other.
     fn with_groups(
         &mut self,
         request: &mut Values,
@@ -351,7 +351,7 @@ impl<'a> Damage<'a> {
         true
     }
 
-    /// Makes the tag longer, where there is one, now that its SEQ has come so many times.
+    /// Makes the tag longer, if there is one, after its SEQ was repeated so many times.
     fn stretch_tag(&mut self, request: &mut Values, times: usize) {
         let held = request.place_of(Kind::Text).map_or(0, |text| request.fields[text].1.len());
         let times = times.min(MOST_REPEATED / held.max(1));
@@ -420,7 +420,7 @@ impl<'a> Damage<'a> {
         }
     }
 
-    /// An entry taken out, put in so that the later ones stay in place, or spelled otherwise.
+    /// Removes an entry, inserts one so that later calls keep their places, or changes a skip or the values.
     fn change_entry(&mut self, group: &mut Group) {
         let (entries, way) = (&mut group.entries, self.random.below(7));
         let at = self.random.below(entries.len() + 1);
@@ -446,7 +446,7 @@ impl<'a> Damage<'a> {
 
     // ---- Edits that mean something ---------------------------------------------------------------
 
-    /// Makes the edit one of the SEQ that there is now, mostly.
+    /// Mostly makes the edit fit the present SEQ.
     fn settle(&mut self, request: &mut Values) {
         if self.random.one_in(5) {
             return;
@@ -466,7 +466,7 @@ impl<'a> Damage<'a> {
         }
     }
 
-    /// A row with some of its bases N.
+    /// The row with some of its bases masked.
     fn masked(&mut self, row: &[u8]) -> Vec<u8> {
         let mut after = row.to_vec();
         let sparse = self.random.pick(&[2, 5, 9, 30, 400]);
@@ -503,7 +503,7 @@ impl<'a> Damage<'a> {
         request.fields[4].1 = Value::Numbers(vec![start]);
     }
 
-    /// Places of a row of so many bases, some of them past its end.
+    /// Places of a row of `length` bases, some of them past its end.
     fn places(&mut self, length: usize) -> Vec<Option<i128>> {
         let many = self.random.one_in(10);
         let count = if many { self.random.below(length.min(200) + 1) } else { self.random.below(6) };
@@ -515,7 +515,7 @@ impl<'a> Damage<'a> {
         places
     }
 
-    /// A step within the SEQ, on lengths that are those of the buffers, or leave some bytes of them over.
+    /// Makes the step fit SEQ. The lengths are those of the buffers, or leave some bytes of them over.
     fn settle_step(&mut self, request: &mut Values) {
         let [(_, seq), (_, mm), (_, ml), (_, lengths), (_, Value::Word(kind)), (_, arguments)] =
             &mut request.fields[..]
@@ -551,7 +551,7 @@ impl<'a> Damage<'a> {
 
     // ---- Room, and the line itself -----------------------------------------------------------------
 
-    /// Lends room around what the Rust's answer takes, keeps the room that the request had, or none.
+    /// Lends about as much room as the Rust's answer needs, or the room that the request had, or none.
     fn lend_room(&mut self, request: &Values, begin: usize, lines: &mut Vec<u8>) {
         let count = request.call.room;
         if count == 0 || !self.random.one_in(7) {

@@ -6,28 +6,28 @@ use Kind::{
     Places, Reads, Reference, ReferenceRow, SignedPlaces, Start, Step, Text, Values, Window, Words, YesNo,
 };
 
-/// What a field holds. `Bases`, `Informative` and `Counts` of one request run in parallel.
+/// What a field holds. `Bases`, `Informative` and `Counts` of one request are parallel rows.
 #[derive(Clone, Copy, Debug, PartialEq, Eq)]
 pub enum Kind {
     /// MM.
     Text,
     /// ML, `-` for none.
     Values,
-    /// An ML that must be there.
+    /// An ML that must not be missing.
     GivenValues,
     Bases,
-    /// A cut's SEQ after it.
+    /// SEQ after a cut.
     Window,
     Informative,
     Counts,
     /// CIGAR words.
     Words,
     Places,
-    /// Places of a reference, `-` where one is missing.
+    /// Places of a reference, `-` for a missing place.
     SignedPlaces,
     Place,
     Start,
-    /// A number, `-` where it is unknown.
+    /// A number, `-` if it is unknown.
     CutStart,
     Length,
     /// A session's three lengths.
@@ -81,7 +81,7 @@ pub const CALLS: [Call; 18] = [
 ];
 
 impl Call {
-    /// The call of that name, where the table has it.
+    /// The call of that name, if the table has it.
     #[must_use]
     pub fn named(name: &str) -> Option<&'static Self> {
         CALLS.iter().find(|call| call.name == name)
@@ -169,7 +169,7 @@ fn holds(kind: Kind, field: &str) -> bool {
 
 // ---- Requests --------------------------------------------------------------------------------
 
-/// A line taken apart: its call's name, its fields, and the room where it lends any.
+/// A line taken apart: its call's name, its fields, and the room if it lends any.
 pub struct Request<'a> {
     pub name: &'a str,
     pub fields: Vec<&'a str>,
@@ -189,13 +189,13 @@ impl<'a> Request<'a> {
         Self { name, fields, room }
     }
 
-    /// The numbers of the room, where it is of its form.
+    /// The numbers of the room, if it is of its form.
     #[must_use]
     pub fn sizes(&self) -> Option<Vec<u64>> {
         list(self.room?, number)
     }
 
-    /// Whether the program must take this for a request of the call.
+    /// Whether the program must accept this as a request of the call.
     #[must_use]
     pub fn is_of_form(&self, call: &Call, line: &str) -> bool {
         line.len() <= LONGEST_LINE

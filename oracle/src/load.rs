@@ -1,10 +1,10 @@
-//! Puts random and damaged requests to a program, and holds its answers against the Rust's.
+//! Sends random and damaged requests to a program, and compares its answers with the Rust's.
 //!
 //!     fgumi-oracle load SEED COUNT CORPUS SAMPLE OUT -- COMMAND ARGS..
 //!
-//! CORPUS is a file of requests, from which COUNT are made. About SAMPLE of them, with the program's answers, go to
-//! OUT.requests and OUT.answers, so that the model can be held against these. A request whose answer disagrees with
-//! the Rust's, or is missing, goes to OUT.failures; then, and where the program ends in failure, the status is 1.
+//! CORPUS is a file of requests, from which COUNT requests are made. About SAMPLE of them, with the program's
+//! answers, go to OUT.requests and OUT.answers, to be compared with the model. A request whose answer disagrees with
+//! the Rust's, or is missing, goes to OUT.failures. The status is 1 if there is one, or if the program fails.
 
 use crate::agree::Verdict;
 use crate::calls::QUICK;
@@ -21,11 +21,11 @@ use std::sync::mpsc::{Receiver, SyncSender, sync_channel};
 use std::thread;
 use std::time::Duration;
 
-/// Requests made at once.
+/// The number of requests in a chunk.
 const CHUNK: usize = 2_000;
-/// Chunks that may wait for their answers, since a program may hold answers back until its buffer is full.
+/// How many chunks may wait for their answers: a program may hold answers back until its buffer is full.
 const WAITING: usize = 16;
-/// A run ends at so many disagreements.
+/// A run ends after so many disagreements.
 const MOST_FAILURES: usize = 10;
 
 struct Options<'a> {
@@ -50,7 +50,7 @@ impl<'a> Options<'a> {
     }
 }
 
-/// Makes the requests, and feeds them to the program; ends where the program takes no more.
+/// Makes the requests and feeds them to the program; ends early if the program takes no more.
 fn feed(options: &Options, corpus: &Corpus, mut program: ChildStdin, chunks: SyncSender<Arc<Vec<u8>>>) {
     let mut damage = Damage::new(options.seed, corpus);
     let mut left = options.count;
@@ -62,18 +62,18 @@ fn feed(options: &Options, corpus: &Corpus, mut program: ChildStdin, chunks: Syn
         }
         left -= left.min(CHUNK);
         let lines = Arc::new(lines);
-        // The judge has to know a chunk before the program can answer it.
+        // The judge must have a chunk before the program can answer it.
         if chunks.send(Arc::clone(&lines)).is_err() || program.write_all(&lines).is_err() {
             return;
         }
     }
 }
 
-/// What came of the requests so far.
+/// The results of the requests so far.
 struct Tally {
     asked: usize,
     disagreements: usize,
-    /// By call, then by the answer's number, which `?` and the like have not.
+    /// By call, then by the answer's number; None for an answer without a number, such as `?`.
     numbers: BTreeMap<String, BTreeMap<Option<u32>, usize>>,
     named: BTreeMap<&'static str, usize>,
     every: usize,
@@ -167,7 +167,7 @@ enum End {
     Whole,
     /// The program's answers ended before the requests.
     Missing,
-    /// There is an answer too many.
+    /// There are more answers than requests.
     Over,
     TooManyDisagree,
 }
@@ -194,7 +194,7 @@ fn start(command: &[String]) -> io::Result<Child> {
     Command::new(&command[0]).args(&command[1..]).stdin(Stdio::piped()).stdout(Stdio::piped()).spawn()
 }
 
-/// The status of a program that has mostly ended by itself, which then tells why; else it is ended.
+/// The program's status. Mostly it has ended by itself, and the status shows why; otherwise it is killed.
 fn status_of(program: &mut Child) -> io::Result<ExitStatus> {
     for _ in 0..100 {
         if let Some(status) = program.try_wait()? {
@@ -222,7 +222,7 @@ pub fn run(arguments: &[String], output: &mut impl Write) -> io::Result<i32> {
         let (options, corpus) = (&options, &corpus);
         scope.spawn(move || feed(options, corpus, input, sender));
         let end = judge(&chunks, &mut answers, &mut tally);
-        // The feeding ends where neither the judge nor the program takes anything any more.
+        // The feeding ends when neither the judge nor the program takes anything more.
         drop((chunks, answers));
         let end = end?;
         Ok::<_, io::Error>((end, if end == End::Whole { program.wait()? } else { status_of(&mut program)? }))

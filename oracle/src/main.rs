@@ -1,19 +1,19 @@
 //! Runs the Rust's files, unchanged, behind the line protocol of the program `ask`.
 //!
 //!     fgumi-oracle < requests > answers        # the Rust's answers
-//!     fgumi-oracle judge < pairs > verdicts    # holds answers against the Rust's (agree.rs)
-//!     fgumi-oracle load ..                     # puts random requests to a program and to the Rust (load.rs)
+//!     fgumi-oracle judge < pairs > verdicts    # compares answers with the Rust's (agree.rs)
+//!     fgumi-oracle load ..                     # sends random requests to a program and to the Rust (load.rs)
 //!
-//! A pair is a request and an answer, a line each. Its verdict is `=`, or `~` and the name of a difference, or `!`
-//! and the Rust's answer where the two disagree. An answer of the Rust is a line:
+//! A pair is a request and an answer, a line each. Its verdict is `=`, or `~` and the name of a difference, or, if
+//! the two disagree, `!` and the Rust's answer. An answer of the Rust is a line:
 //!
-//! - `0` and the fields where the Rust answers;
-//! - `None` where it gives None, and `None4` to `None10` where further runs tell at which exit (exits.rs);
-//! - `None11` where a cut lost every tag, since SEQ is not a window; `Same` where a cut left the tag unread;
-//! - `PANIC` where it panicked;
-//! - `?` where the request cannot be put to the Rust at all.
+//! - `0` and the fields if the Rust answers;
+//! - `None` if it gives None, and `None4` to `None10` if further runs show at which exit (exits.rs);
+//! - `None11` if a cut lost every tag, since SEQ is not a window; `Same` if a cut left the tag unread;
+//! - `PANIC` if it panicked;
+//! - `?` if the request cannot be passed to the Rust at all.
 //!
-//! The room that a request may lend (`@..`) has no counterpart there and is passed over.
+//! The Rust has no counterpart of the room that a request may lend (`@..`), so the room is ignored.
 
 mod agree;
 mod calls;
@@ -28,8 +28,8 @@ mod stand_ins;
 mod tag;
 mod value;
 
-// methylation.rs and modifications.rs say `crate::MethylationMode` and `crate::vanilla_caller`, and
-// `fgumi_dna::dna` for what is here the module `dna`.
+// methylation.rs and modifications.rs use `crate::MethylationMode` and `crate::vanilla_caller`, and the
+// path `fgumi_dna::dna` for the module that is `dna` here.
 extern crate self as fgumi_dna;
 pub use stand_ins::{MethylationMode, vanilla_caller};
 
@@ -51,17 +51,17 @@ fn answer_line(line: &[u8], effort: Effort) -> String {
     }
 }
 
-/// An answer held against the Rust's.
+/// Compares an answer with the Rust's.
 fn verdict(line: &[u8], rust: &str, answer: &[u8], effort: Effort) -> Verdict {
     let [line, answer] = [line, answer].map(|text| match std::str::from_utf8(text) {
         Ok(text) => Cow::Borrowed(text),
-        // It is not of the form, and is seen so with its odd bytes replaced.
+        // A line that is not UTF-8 is not of the form, and is still not of the form with its odd bytes replaced.
         Err(_) => String::from_utf8_lossy(text),
     });
     agree::verdict(&line, rust, &answer, effort)
 }
 
-/// Reads a line without its end; false where there is none.
+/// Reads a line without its end; false if there is none.
 fn read_line(input: &mut impl BufRead, line: &mut Vec<u8>) -> io::Result<bool> {
     line.clear();
     let found = input.read_until(b'\n', line)? > 0;

@@ -1,6 +1,6 @@
 //! The written form of requests and answers: bytes in hex, lists, decimals.
 
-/// What the Rust made of a request.
+/// The Rust's answer to a request.
 pub enum Reply {
     Done(Vec<String>),
     /// The Rust's None.
@@ -91,7 +91,7 @@ pub fn byte(field: &str) -> Option<u8> {
     if field.len() == 2 { bytes(field).map(|one| one[0]) } else { None }
 }
 
-/// What `read` gives, or nothing at all for `-`.
+/// What `read` gives, or `Some(None)` for `-`.
 pub fn absent_or<T>(field: &str, read: impl Fn(&str) -> Option<T>) -> Option<Option<T>> {
     if field == "-" { Some(None) } else { read(field).map(Some) }
 }

@@ -1,4 +1,4 @@
-//! Random numbers, the same ones for the same seed.
+//! Random numbers. The same seed gives the same numbers.
 
 /// splitmix64.
 pub struct Random(u64);
@@ -17,17 +17,17 @@ impl Random {
         mixed ^ (mixed >> 31)
     }
 
-    /// A number below `bound`, which is not 0 and below 2^32.
+    /// A number below `bound`. `bound` is not 0 and below 2^32.
     pub fn below(&mut self, bound: usize) -> usize {
         (((self.next() >> 32) * bound as u64) >> 32) as usize
     }
 
-    /// Once in so many times.
+    /// True once in `times` calls on average.
     pub fn one_in(&mut self, times: usize) -> bool {
         self.below(times) == 0
     }
 
-    /// One of the items, of which there are some.
+    /// One of the items, which must not be empty.
     pub fn pick<T: Copy>(&mut self, items: &[T]) -> T {
         items[self.below(items.len())]
     }

@@ -1,6 +1,6 @@
-//! MM and ML as groups of entries, so that both can be changed in step.
+//! MM and ML as groups of entries, so that both can be changed together.
 
-/// A skip as it is spelled, and the ML values that go with it.
+/// A skip as it is spelled, and the ML values of its call.
 #[derive(Clone)]
 pub struct Entry {
     pub skip: Vec<u8>,
@@ -22,7 +22,7 @@ fn values_per_entry(header: &[u8]) -> usize {
 }
 
 impl Group {
-    /// Gives each entry as many values as the header says, where there is an ML.
+    /// Gives each entry as many values as the header says; for a tag with an ML.
     pub fn fit_values(&mut self) {
         let count = values_per_entry(&self.header);
         for entry in &mut self.entries {
@@ -40,7 +40,7 @@ impl Group {
     }
 }
 
-/// The groups of a text that is closed and whose ML is as long as its entries say.
+/// The groups of a text; None unless it ends in ';' and its ML is as long as its entries say.
 #[must_use]
 pub fn groups(mm: &[u8], ml: Option<&[u8]>) -> Option<Vec<Group>> {
     let mut values = ml.unwrap_or_default();

@@ -1,4 +1,4 @@
-//! A request's fields as values that can be changed, and the writing of them.
+//! A request's fields as values that can be changed and written.
 
 use crate::form::{Call, Kind, Request};
 use crate::protocol::{bytes, list, show_bytes};
@@ -6,7 +6,7 @@ use std::io::Write;
 
 #[derive(Clone)]
 pub enum Value {
-    /// A reference row too, with 0 for `-`.
+    /// Bytes; also a reference row, with 0 for `-`.
     Bytes(Vec<u8>),
     /// A list or one number; `None` is `-`.
     Numbers(Vec<Option<i128>>),
@@ -55,7 +55,7 @@ impl Value {
         }
     }
 
-    /// The bytes; none of them where it is something else.
+    /// The bytes; none if the value is something else.
     #[must_use]
     pub fn bytes(&self) -> &[u8] {
         if let Self::Bytes(bytes) = self { bytes } else { &[] }
@@ -103,12 +103,12 @@ fn write_list<T>(items: &[T], line: &mut Vec<u8>, write: impl Fn(&T, &mut Vec<u8
 pub struct Values {
     pub call: &'static Call,
     pub fields: Vec<(Kind, Value)>,
-    /// What stands behind the `@`.
+    /// The text behind the `@`.
     pub room: Option<String>,
 }
 
 impl Values {
-    /// The values of a line; nothing where it is no request, or the table of calls doesn't have it.
+    /// The values of a line; None if it is no request, or the table of calls doesn't have it.
     #[must_use]
     pub fn of(line: &str) -> Option<Self> {
         let request = Request::of(line);
@@ -117,7 +117,7 @@ impl Values {
         Some(Self { call, fields: fields.collect(), room: request.room.map(str::to_string) })
     }
 
-    /// Where the first field of that kind stands.
+    /// The place of the first field of that kind.
     #[must_use]
     pub fn place_of(&self, wanted: Kind) -> Option<usize> {
         self.fields.iter().position(|(kind, _)| *kind == wanted)

@@ -80,7 +80,7 @@ pub fn aux_data_slice(record: &[u8]) -> &[u8] {
     &record[HEADER + length_at(record, 1)..]
 }
 
-/// Where in `aux` the field of that name starts, and where it ends.
+/// The start and the end of the field of that name in `aux`.
 fn find(aux: &[u8], tag: SamTag) -> Option<(usize, usize)> {
     let mut at = 0;
     while at < aux.len() {
@@ -125,7 +125,7 @@ pub fn find_int_tag(aux: &[u8], tag: SamTag) -> Option<i64> {
     Some(i64::from(i32::from_le_bytes(four)))
 }
 
-/// Changes optional fields: one that is updated is taken out, if it is there, and put last.
+/// Changes optional fields: an updated field is removed, if present, and appended.
 pub struct RawTagsEditor<'a>(&'a mut Vec<u8>);
 
 impl<'a> RawTagsEditor<'a> {
