@@ -21,6 +21,9 @@ static const struct call calls[] = {
     {"REST", 3, 3, 0, ask_rest},   {"BUILD", 6, 6, 2, ask_build}, {"BUILDMM", 6, 6, 1, ask_buildmm}, {"DUP", 2, 14, 2, ask_dup},
     {"CALLS", 3, 3, 1, ask_calls}, {"TALLY", 3, 3, 0, ask_tally}, {"MASK", 4, 4, 2, ask_mask},       {"DROP", 4, 4, 2, ask_drop},
     {"CUT", 5, 5, 2, ask_cut},     {"STEP", 6, 6, 0, ask_step},
+    {"K1.TURN", 2, 2, 1, ask_turn},         {"K1.UNPACK", 3, 3, 1, ask_unpack},     {"K1.CALLS", 5, 5, 1, ask_stored_calls},
+    {"K1.PMASK", 7, 7, 2, ask_stored_mask}, {"K1.PDROP", 7, 7, 2, ask_stored_drop}, {"K1.PCUT", 8, 8, 2, ask_stored_cut},
+    {"K1.PSES", 6, MOST_FIELDS, 0, ask_stored_session},
 };
 
 /* ---- One request */
@@ -28,9 +31,12 @@ static const struct call calls[] = {
 /* Splits a line at its tabs; the first part is the name. */
 static void split(const uint8_t *line, size_t n, struct field *name, struct request *q)
 {
+    static struct field fields[MOST_FIELDS];
     size_t from = 0, to, part;
+    q->fields = fields;
     q->malformed = 0;
     q->differs = 0;
+    q->wrote = 0;
     q->count = 0;
     for (part = 0; from <= n; part++, from = to + 1) {
         struct field f = {line + from, 0};
@@ -91,7 +97,7 @@ static void respond(const uint8_t *line, size_t n, uint64_t turn)
         call->ask(&q);
     if (call == NULL || q.malformed)
         add_text("?");
-    else if (rows_wrote())
+    else if (rows_wrote() || q.wrote)
         add_text("\tWROTE");
     if (q.differs)
         add_text("\tDIFFER");

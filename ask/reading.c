@@ -7,40 +7,51 @@ static size_t values_of(const uint32_t *starts, size_t i, size_t n, size_t ml)
     return (i + 1 < n ? starts[i + 1] : ml) - starts[i];
 }
 
-/* CALLS mm ml seq */
-void ask_calls(struct request *q)
+struct listing output_calls(struct request *q, size_t text)
 {
-    uint8_t has_ml;
-    struct row *mm = read_bytes(q, 0, BYTES), *ml = read_ml(q, 1, &has_ml), *seq = read_bytes(q, 2, BASES);
-    /* An entry has at least two bytes, so no tag lists more calls than its text has bytes. */
-    struct row *groups = output(q, sizeof(uint32_t), 0, mm->n);
-    struct row *places = output(q, sizeof(uint32_t), 0, mm->n);
-    struct row *starts = output(q, sizeof(uint32_t), 0, mm->n);
-    struct row *group_count = output_sizes(1), *call_count = output_sizes(1);
-    size_t i, n;
-    if (!ready(q))
-        return;
-    if (!answered(aql_read_calls(U8(seq), U8(mm), U8(ml), has_ml, U32(groups), U32(places), U32(starts), as_size(group_count), as_size(call_count))))
-        return;
-    put_size(written(group_count, 0));
-    n = written(call_count, 0);
-    row_fill(groups, n);
-    row_fill(places, n);
-    n = row_fill(starts, n);
+    struct listing c;
+    c.groups = output(q, sizeof(uint32_t), 0, text);
+    c.places = output(q, sizeof(uint32_t), 0, text);
+    c.starts = output(q, sizeof(uint32_t), 0, text);
+    c.group_count = output_sizes(1);
+    c.call_count = output_sizes(1);
+    return c;
+}
+
+void put_calls(struct listing c, uint8_t has_ml, size_t ml)
+{
+    const uint32_t *groups = as_u32(c.groups), *places = as_u32(c.places), *starts = as_u32(c.starts);
+    size_t i, n = written(c.call_count, 0);
+    put_size(written(c.group_count, 0));
+    row_fill(c.groups, n);
+    row_fill(c.places, n);
+    n = row_fill(c.starts, n);
     add_tab();
     if (n == 0)
         add_character('*');
     for (i = 0; i < n; i++) {
         if (i > 0)
             add_character(',');
-        add_decimal(as_u32(groups)[i]);
+        add_decimal(groups[i]);
         add_character(':');
-        add_decimal(as_u32(places)[i]);
+        add_decimal(places[i]);
         add_character(':');
-        add_decimal(as_u32(starts)[i]);
+        add_decimal(starts[i]);
         add_character(':');
-        add_decimal(has_ml ? values_of(as_u32(starts), i, n, ml->n) : 0);
+        add_decimal(has_ml ? values_of(starts, i, n, ml) : 0);
     }
+}
+
+/* CALLS mm ml seq */
+void ask_calls(struct request *q)
+{
+    uint8_t has_ml;
+    struct row *mm = read_bytes(q, 0, BYTES), *ml = read_ml(q, 1, &has_ml), *seq = read_bytes(q, 2, BASES);
+    struct listing c = output_calls(q, mm->n);
+    if (!ready(q))
+        return;
+    if (answered(aql_read_calls(U8(seq), U8(mm), U8(ml), has_ml, LISTING(c))))
+        put_calls(c, has_ml, ml->n);
 }
 
 /* TALLY mm ml seq: ML is always given. */

@@ -15,6 +15,16 @@ int field_is(const struct request *q, size_t k, char character)
     return k < q->count && q->fields[k].n == 1 && q->fields[k].at[0] == (uint8_t)character;
 }
 
+int field_begins(const struct request *q, size_t k, const char *word)
+{
+    return k < q->count && q->fields[k].n >= strlen(word) && memcmp(q->fields[k].at, word, strlen(word)) == 0;
+}
+
+int field_spells(const struct request *q, size_t k, const char *word)
+{
+    return field_begins(q, k, word) && q->fields[k].n == strlen(word);
+}
+
 /* ---- Numbers */
 
 /* Reads a plain decimal of at most `largest`, with any number of leading zeros. */
@@ -189,9 +199,8 @@ static struct field next_item(struct field *left)
 /* Writes one item to its place in a row. Returns whether the item has the right form. */
 typedef int lay_item(struct field item, uint8_t *to);
 
-static struct row *read_list(struct request *q, size_t k, size_t most, size_t width, lay_item *lay)
+static struct row *read_items(struct request *q, struct field left, size_t most, size_t width, lay_item *lay)
 {
-    struct field left = field_of(q, k);
     size_t i, n = item_count(left);
     struct row *r;
     if (n > most)
@@ -201,6 +210,11 @@ static struct row *read_list(struct request *q, size_t k, size_t most, size_t wi
         if (!lay(next_item(&left), r->bytes + i * width))
             q->malformed = 1;
     return r;
+}
+
+static struct row *read_list(struct request *q, size_t k, size_t most, size_t width, lay_item *lay)
+{
+    return read_items(q, field_of(q, k), most, width, lay);
 }
 
 static int lay_u32(struct field item, uint8_t *to)
@@ -267,9 +281,17 @@ struct row *read_numbers(struct request *q, size_t k, size_t most)
     return read_list(q, k, most, sizeof(uint32_t), lay_u32);
 }
 
+struct row *read_places_behind(struct request *q, size_t k, size_t lead)
+{
+    struct field f = field_of(q, k);
+    f.at += f.n < lead ? f.n : lead;
+    f.n -= f.n < lead ? f.n : lead;
+    return read_items(q, f, BYTES, sizeof(uint32_t), lay_place);
+}
+
 struct row *read_places(struct request *q, size_t k)
 {
-    return read_list(q, k, BYTES, sizeof(uint32_t), lay_place);
+    return read_places_behind(q, k, 0);
 }
 
 struct row *read_signed_places(struct request *q, size_t k)
@@ -345,7 +367,7 @@ int ready(struct request *q)
     return !q->malformed;
 }
 
-void must_agree(struct request *q, uint8_t number, uint8_t other)
+void must_agree(struct request *q, size_t number, size_t other)
 {
     if (number != other)
         q->differs = 1;

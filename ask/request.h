@@ -21,16 +21,18 @@ struct field {
     size_t n;
 };
 
-#define MOST_FIELDS 20
+/* More fields than a line of at most 1,048,575 bytes can have, if each of them is a step. */
+#define MOST_FIELDS 262144u
 #define MOST_ROOMS 2
 #define AMPLE ((uint64_t)-1)
 
 struct request {
-    struct field fields[MOST_FIELDS];
+    struct field *fields; /* place for MOST_FIELDS */
     size_t count;
     uint64_t rooms[MOST_ROOMS];
     int malformed;
     int differs; /* two calls that must agree did not */
+    int wrote;   /* a call before the last one changed what it may not change */
 };
 
 /* ---- What a field holds. k counts the fields from 0, without the request's name. */
@@ -45,6 +47,7 @@ struct row *read_ml(struct request *q, size_t k, uint8_t *has);
  * signed places with `-` for a missing one; of a reference's bases with `-` for a missing one; and of n lengths. */
 struct row *read_numbers(struct request *q, size_t k, size_t most);
 struct row *read_places(struct request *q, size_t k);
+struct row *read_places_behind(struct request *q, size_t k, size_t lead); /* behind the first `lead` characters of the field */
 struct row *read_signed_places(struct request *q, size_t k);
 struct row *read_reference(struct request *q, size_t k);
 struct row *read_lengths(struct request *q, size_t k, size_t n);
@@ -56,8 +59,10 @@ struct row *read_item_lengths(struct request *q, size_t k, size_t most);
 uint64_t read_number(struct request *q, size_t k, uint64_t largest);
 int64_t read_signed(struct request *q, size_t k);
 
-/* Whether a field is just this character, such as `-` for a number that is not known. */
+/* Whether a field is just this character, such as `-` for a number that is not known; whether it is this word, or begins with it. */
 int field_is(const struct request *q, size_t k, char character);
+int field_spells(const struct request *q, size_t k, const char *word);
+int field_begins(const struct request *q, size_t k, const char *word);
 
 /* Yes is some byte other than 0, which varies by turn; no is 0. */
 uint8_t read_yes(struct request *q, size_t k);
@@ -80,7 +85,7 @@ size_t written(struct row *r, size_t k);
 /* Keeps a copy of the rows. Returns whether every field had the right form; the call then comes next. */
 int ready(struct request *q);
 
-/* Notes if the number of a second call differs from that of the first, which it must equal. */
-void must_agree(struct request *q, uint8_t number, uint8_t other);
+/* Notes if a number of a second call differs from that of the first, which it must equal. */
+void must_agree(struct request *q, size_t number, size_t other);
 
 #endif

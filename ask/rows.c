@@ -48,6 +48,16 @@ void rows_begin(uint64_t number)
     turn = number;
 }
 
+size_t rows_taken(void)
+{
+    return taken;
+}
+
+void rows_give_back(size_t kept)
+{
+    taken = kept;
+}
+
 uint64_t rows_turn(void)
 {
     return turn;

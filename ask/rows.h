@@ -31,6 +31,10 @@ struct row *row_of(size_t width, size_t n);
 /* A row that a call may not look at: it is in the untouchable page, or NULL. */
 struct row *row_in_page(size_t width);
 
+/* How many rows are taken; and gives back those that were taken after the first `kept`. */
+size_t rows_taken(void);
+void rows_give_back(size_t kept);
+
 /* Keeps a copy of every row: the call comes next, and has changed nothing yet. */
 void rows_lend(void);
 

@@ -1,11 +1,6 @@
 /* STEP: one step of an edit session, in the caller's own rows. */
 #include "calls.h"
 
-static int field_spells(const struct request *q, size_t k, const char *word)
-{
-    return k < q->count && q->fields[k].n == 2 && memcmp(q->fields[k].at, word, 2) == 0;
-}
-
 /* STEP seq mm ml lens kind args */
 void ask_step(struct request *q)
 {

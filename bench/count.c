@@ -25,8 +25,6 @@ extern void qemu_plugin_register_vcpu_tb_trans_cb(qemu_plugin_id_t, void (*)(qem
 extern void qemu_plugin_register_vcpu_tb_exec_cb(struct qemu_plugin_tb *, void (*)(unsigned, void *), enum qemu_plugin_cb_flags, void *);
 extern size_t qemu_plugin_tb_n_insns(const struct qemu_plugin_tb *);
 extern struct qemu_plugin_insn *qemu_plugin_tb_get_insn(const struct qemu_plugin_tb *, size_t);
-extern const void *qemu_plugin_insn_data(const struct qemu_plugin_insn *);
-extern size_t qemu_plugin_insn_size(const struct qemu_plugin_insn *);
 extern uint64_t qemu_plugin_insn_vaddr(const struct qemu_plugin_insn *);
 extern const char *qemu_plugin_insn_symbol(const struct qemu_plugin_insn *);
 extern char *qemu_plugin_insn_disas(const struct qemu_plugin_insn *);
@@ -45,11 +43,11 @@ static unsigned bucket;
 static unsigned shown_bucket; /* 0 if only counts are wanted */
 static FILE *out;
 
-/* A block of instructions as QEMU translated it. QEMU runs an instruction with a rep prefix as a loop of blocks, one for each element, but a processor
- * counts it once. So a block that begins with the rep instruction that ran last is another turn of the same instruction. */
+/* A block of instructions as QEMU translated it. A block that begins with the last instruction of the block that ran before it has the same instruction
+ * once more, and a processor counts it once: QEMU runs an instruction with a rep prefix as a loop of blocks, one for each element. And an instruction that
+ * crosses a page is listed twice, at the end of one block, which does not run it, and at the front of the next. */
 struct block {
     uint64_t first, last, length;
-    bool repeats;
     uint64_t runs; /* in the bucket that is shown */
     const char *symbol;
     char **code;
@@ -58,22 +56,10 @@ struct block {
 static uint64_t ran_last;
 static struct block *blocks;
 
-static bool is_prefix(uint8_t b) { return b == 0x66 || b == 0x67 || (b & 0xf0) == 0x40; }
-static bool is_string_operation(uint8_t b) { return (b >= 0xa4 && b <= 0xa7) || (b >= 0xaa && b <= 0xaf); }
-
-static bool has_rep(const uint8_t *code, size_t n) {
-    bool rep = false;
-    for (size_t i = 0; i < n; i++) {
-        if (code[i] == 0xf2 || code[i] == 0xf3) rep = true;
-        else if (!is_prefix(code[i])) return rep && is_string_operation(code[i]);
-    }
-    return false;
-}
-
 static void block_runs(unsigned cpu, void *data) {
     struct block *b = data;
     counted[bucket] += b->length;
-    if (b->repeats && b->first == ran_last) counted[bucket]--;
+    if (b->first == ran_last) counted[bucket]--;
     if (bucket == shown_bucket) b->runs++;
     ran_last = b->last;
 }
@@ -86,7 +72,6 @@ static void block_translated(qemu_plugin_id_t id, struct qemu_plugin_tb *tb) {
     b->length = n;
     b->first = qemu_plugin_insn_vaddr(first);
     b->last = qemu_plugin_insn_vaddr(qemu_plugin_tb_get_insn(tb, n - 1));
-    b->repeats = has_rep(qemu_plugin_insn_data(first), qemu_plugin_insn_size(first));
     if (shown_bucket) {
         b->symbol = qemu_plugin_insn_symbol(first);
         b->code = calloc(n, sizeof *b->code);

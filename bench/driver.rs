@@ -14,7 +14,9 @@ extern crate self as fgumi_dna;
 pub use stand_ins::{MethylationMode, vanilla_caller};
 include!(env!("BENCH_ORIGINALS"));
 
-use inputs::{Case, Columns, Density};
+use inputs::{Case, Columns, Density, turned_and_packed};
+use rattle::stored::{self, SeqRow};
+use rattle::{Session, TagRows};
 use std::cell::RefCell;
 use std::ffi::{CString, c_char, c_long, c_void};
 use std::hint::black_box;
@@ -91,34 +93,86 @@ fn reading(meter: &mut Meter, c: &Case) {
     assert_eq!(rattle::tally(c), (0, above, c.ml.len() - above));
 }
 
-/// One kind of edit: the Rust's, Rattle's from row to row, and Rattle's session step, whose SEQ becomes `left`.
-fn edit(
-    meter: &mut Meter,
-    c: &Case,
-    row: &str,
-    rust: fn(&Case) -> original::Tag,
-    rewrite: fn(&mut rattle::TagRows, &Case) -> u8,
-    step: fn(&mut rattle::Session, &Case) -> u8,
-    left: &[u8],
-) {
+/// Turning and unpacking, at any length.
+fn turning(meter: &mut Meter, c: &Case) {
+    let turned = original::turn(&c.seq);
+    meter.side(c, "turn", "rust", || {}, |_| drop(black_box(original::turn(black_box(&turned)))));
+    let mut row = SeqRow::new(c.stored.seq.len());
+    meter.side(c, "turn", "rattle", || {}, |_| assert_eq!(row.turn(black_box(c)), 0));
+    assert_eq!(row.seq(), turned_and_packed(&turned), "{} bases, turned", c.bases);
+
+    meter.side(c, "unpack", "rust", || {}, |_| drop(black_box(original::unpack_and_turn(black_box(&c.stored.seq), c.bases))));
+    let mut row = SeqRow::new(c.bases);
+    meter.side(c, "unpack", "rattle", || {}, |_| assert_eq!(row.unpack(black_box(c)), 0));
+    assert_eq!(row.seq(), original::unpack_and_turn(&c.stored.seq, c.bases));
+    assert_eq!(row.seq(), c.seq, "{} bases, unpacked", c.bases);
+
+    meter.side(c, "unpack-forward", "rust", || {}, |_| drop(black_box(original::unpack(black_box(&c.stored.seq), c.bases))));
+    meter.side(c, "unpack-forward", "rattle", || {}, |_| assert_eq!(row.unpack_forward(black_box(c)), 0));
+    assert_eq!(row.seq(), original::unpack(&c.stored.seq, c.bases));
+    assert_eq!(row.seq(), turned, "{} bases, unpacked as they are stored", c.bases);
+}
+
+/// Reads the stored read. The answers are those of the plain calls, with each place mirrored.
+fn reading_stored(meter: &mut Meter, c: &Case) {
+    let (mut rows, mut plain) = (rattle::CallRows::new(c), rattle::CallRows::new(c));
+    meter.side(c, "stored-read", "rattle", || {}, |_| assert_eq!(rows.stored_read(black_box(c)), 0));
+    assert_eq!(plain.read(c), 0);
+    let mirrored: Vec<(u32, u8)> = plain.calls(c).iter().map(|&(place, value)| (c.bases as u32 - 1 - place, value)).collect();
+    assert_eq!(rows.calls(c), mirrored, "calls of a stored read of {} bases", c.bases);
+
+    meter.side(c, "stored-check", "rattle", || {}, |_| assert_eq!(stored::check(black_box(c)).0, 0));
+    assert_eq!(stored::check(c), rattle::check(c));
+    meter.side(c, "stored-tally", "rattle", || {}, |_| assert_eq!(stored::tally(black_box(c)).0, 0));
+    assert_eq!(stored::tally(c), rattle::tally(c));
+}
+
+/// One kind of edit: the Rust's, Rattle's from row to row, and Rattle's session step.
+struct Sides(fn(&Case) -> original::Tag, fn(&mut TagRows, &Case) -> u8, fn(&mut Session, &Case) -> u8);
+
+/// SEQ in a session's row before and after the step, and how many bases are left.
+struct Seq<'a>(&'a [u8], &'a [u8], usize);
+
+fn edit(meter: &mut Meter, c: &Case, row: &str, Sides(rust, rewrite, step): Sides, Seq(seq, left, bases): Seq) {
     meter.side(c, row, "rust", || {}, |_| drop(black_box(rust(black_box(c)))));
     let expected = rust(c).expect("the Rust edits the tag");
 
-    let mut rows = rattle::TagRows::new(c);
+    let mut rows = TagRows::new(c);
     meter.side(c, row, "rattle", || {}, |_| assert_eq!(rewrite(&mut rows, black_box(c)), 0));
     assert_eq!(rows.tag(), expected, "{row} of {} bases", c.bases);
 
-    let all = RefCell::new(Vec::from_iter((0..calls_a_round(c)).map(|_| rattle::Session::new(c))));
-    let restore = || all.borrow_mut().iter_mut().for_each(|session| session.restore(c));
+    let all = RefCell::new(Vec::from_iter((0..calls_a_round(c)).map(|_| Session::new(c, seq))));
+    let restore = || all.borrow_mut().iter_mut().for_each(|session| session.restore(c, seq));
     meter.side(c, row, "session", restore, |i| assert_eq!(step(&mut all.borrow_mut()[i], black_box(c)), 0));
     for session in all.borrow().iter() {
-        assert_eq!((session.bases(), session.tag()), (left, expected.clone()), "a session's {row} of {} bases", c.bases);
+        let found = (session.bases(), session.front(left.len()), session.tag());
+        assert_eq!(found, (bases, left, expected.clone()), "a session's {row} of {} bases", c.bases);
     }
+}
+
+fn editing(meter: &mut Meter, c: &Case) {
+    let (n, cut) = (c.bases, c.window().len());
+    edit(meter, c, "mask", Sides(original::mask, TagRows::mask, Session::mask), Seq(&c.seq, &c.masked, n));
+    edit(meter, c, "drop", Sides(original::drop_calls, TagRows::drop_calls, Session::drop_calls), Seq(&c.seq, &c.seq, n));
+    edit(meter, c, "cut", Sides(original::cut, TagRows::cut, Session::cut), Seq(&c.seq, c.window(), cut));
+}
+
+/// Edits the stored read. The tags are those of the plain edits.
+fn editing_stored(meter: &mut Meter, c: &Case) {
+    let (n, cut, s) = (c.bases, c.window().len(), &c.stored);
+    let mask = Sides(original::stored_mask, TagRows::stored_mask, Session::stored_mask);
+    let drop_calls = Sides(original::stored_drop_calls, TagRows::stored_drop_calls, Session::stored_drop_calls);
+    assert_eq!(original::stored_mask(c), original::mask(c));
+    edit(meter, c, "stored-mask", mask, Seq(&s.seq, &s.masked, n));
+    assert_eq!(original::stored_drop_calls(c), original::drop_calls(c));
+    edit(meter, c, "stored-drop", drop_calls, Seq(&s.seq, &s.seq, n));
+    assert_eq!(original::stored_cut(c), original::cut(c));
+    edit(meter, c, "stored-cut", Sides(original::stored_cut, TagRows::stored_cut, Session::stored_cut), Seq(&s.seq, &s.window, cut));
 }
 
 fn building(meter: &mut Meter, c: &Case) {
     meter.side(c, "build", "rust", || {}, |_| drop(black_box(original::build(black_box(c)))));
-    let mut rows = rattle::TagRows::new(c);
+    let mut rows = TagRows::new(c);
     meter.side(c, "build", "rattle", || {}, |_| assert_eq!(rows.build(black_box(c)), 0));
     assert_eq!(Some(rows.tag()), original::build(c));
 }
@@ -137,11 +191,11 @@ fn measure(meter: &mut Meter, c: &Case) {
         black_box(i);
     });
     reading(meter, c);
-    edit(meter, c, "mask", original::mask, rattle::TagRows::mask, rattle::Session::mask, &c.masked);
-    edit(meter, c, "drop", original::drop_calls, rattle::TagRows::drop_calls, rattle::Session::drop_calls, &c.seq);
-    edit(meter, c, "cut", original::cut, rattle::TagRows::cut, rattle::Session::cut, c.window());
+    editing(meter, c);
     building(meter, c);
     counting(meter, c);
+    reading_stored(meter, c);
+    editing_stored(meter, c);
 }
 
 fn main() {
@@ -151,5 +205,8 @@ fn main() {
         for density in [Density::Dense, Density::Sparse] {
             measure(&mut meter, &Case::new(bases, density));
         }
+    }
+    for bases in [150, 151, 1_000, 1_001, 15_999, 16_000] {
+        turning(&mut meter, &Case::new(bases, Density::Dense));
     }
 }

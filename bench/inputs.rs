@@ -1,6 +1,7 @@
 //! The inputs of one size and density, the same for every side and every run.
 
 use crate::MethylationMode;
+use crate::dna::reverse_complement;
 use crate::methylation::{ConversionPattern, MethylationAnnotation, MethylationEvidence, build_mm_ml_tags};
 use crate::vanilla_caller::SourceRead;
 
@@ -70,6 +71,16 @@ pub struct Reads {
     pub reference_bytes: Vec<u8>,
 }
 
+/// The read as a BAM record stores it if it is reverse: reverse-complemented, two bases to a byte. So are SEQ after a mask and after a
+/// cut. The places are those of the stored read.
+pub struct Stored {
+    pub seq: Vec<u8>,
+    pub masked: Vec<u8>,
+    pub window: Vec<u8>,
+    pub places: Vec<u32>,
+    pub places_as_sizes: Vec<usize>,
+}
+
 pub struct Case {
     pub bases: usize,
     pub density: Density,
@@ -85,6 +96,7 @@ pub struct Case {
     /// How many bases a cut takes off each end.
     pub cut: usize,
     pub reads: Reads,
+    pub stored: Stored,
 }
 
 fn evidence(seq: &[u8], density: Density, random: &mut Random) -> MethylationAnnotation {
@@ -123,6 +135,25 @@ fn reads(seq: &[u8], random: &mut Random) -> Reads {
     }
 }
 
+/// The bases turned and packed, by the codes of SAM v1. A spare half is 0.
+pub fn turned_and_packed(seq: &[u8]) -> Vec<u8> {
+    let code = |base: &u8| b"=ACMGRSVTWYHKDBN".iter().position(|letter| letter == base).expect("a letter of SAM") as u8;
+    let pair = |two: &[u8]| code(&two[0]) * 16 + two.get(1).map_or(0, code);
+    reverse_complement(seq).chunks(2).map(pair).collect()
+}
+
+/// `places` rise in read orientation, and so do those of the stored read.
+fn stored(seq: &[u8], masked: &[u8], window: &[u8], places: &[u32]) -> Stored {
+    let mirrored: Vec<u32> = places.iter().rev().map(|&place| seq.len() as u32 - 1 - place).collect();
+    Stored {
+        seq: turned_and_packed(seq),
+        masked: turned_and_packed(masked),
+        window: turned_and_packed(window),
+        places_as_sizes: mirrored.iter().map(|&place| place as usize).collect(),
+        places: mirrored,
+    }
+}
+
 impl Case {
     pub fn new(bases: usize, density: Density) -> Self {
         let mut random = Random(88_172_645_463_325_252);
@@ -132,6 +163,7 @@ impl Case {
         let places: Vec<u32> = (0..bases as u32).filter(|_| random.one_in(10)).collect();
         let mut masked = seq.clone();
         places.iter().for_each(|&place| masked[place as usize] = b'N');
+        let cut = bases / 10;
         Self {
             bases,
             density,
@@ -140,9 +172,10 @@ impl Case {
             mm,
             ml,
             places_as_sizes: places.iter().map(|&place| place as usize).collect(),
+            stored: stored(&seq, &masked, &seq[cut..bases - cut], &places),
             places,
             masked,
-            cut: bases / 10,
+            cut,
             reads: reads(&seq, &mut random),
             seq,
         }

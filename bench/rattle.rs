@@ -2,6 +2,9 @@
 
 use crate::inputs::{Case, Columns};
 
+#[path = "stored.rs"]
+pub mod stored;
+
 unsafe extern "C" {
     fn aql_check_tag(
         seq: *const u8, seq_len: usize, mm: *const u8, mm_len: usize, ml: *const u8, ml_len: usize, has_ml: u8,
@@ -211,7 +214,7 @@ impl CountRows {
     }
 }
 
-/// A session's own rows. A step changes them, so each counted call has its own session, restored before.
+/// A session's own rows. A step changes them, so each counted call has its own session, restored before. SEQ of a stored read is packed.
 pub struct Session {
     seq: Vec<u8>,
     mm: Vec<u8>,
@@ -220,17 +223,15 @@ pub struct Session {
 }
 
 impl Session {
-    pub fn new(case: &Case) -> Self {
-        let (seq, mm, ml) = (case.seq.clone(), case.mm.clone().into_bytes(), case.ml.clone());
-        let lengths = [seq.len(), mm.len(), ml.len()];
-        Self { seq, mm, ml, lengths }
+    pub fn new(c: &Case, seq: &[u8]) -> Self {
+        Self { seq: seq.to_vec(), mm: c.mm.clone().into_bytes(), ml: c.ml.clone(), lengths: [c.bases, c.mm.len(), c.ml.len()] }
     }
 
-    pub fn restore(&mut self, c: &Case) {
-        self.seq.copy_from_slice(&c.seq);
+    pub fn restore(&mut self, c: &Case, seq: &[u8]) {
+        self.seq.copy_from_slice(seq);
         self.mm.copy_from_slice(c.mm.as_bytes());
         self.ml.copy_from_slice(&c.ml);
-        self.lengths = [c.seq.len(), c.mm.len(), c.ml.len()];
+        self.lengths = [c.bases, c.mm.len(), c.ml.len()];
     }
 
     pub fn tag(&self) -> (String, Vec<u8>) {
@@ -238,8 +239,13 @@ impl Session {
         (text.to_string(), self.ml[..self.lengths[2]].to_vec())
     }
 
-    pub fn bases(&self) -> &[u8] {
-        &self.seq[..self.lengths[0]]
+    pub fn bases(&self) -> usize {
+        self.lengths[0]
+    }
+
+    /// The front of SEQ's row.
+    pub fn front(&self, entries: usize) -> &[u8] {
+        &self.seq[..entries]
     }
 
     pub fn mask(&mut self, c: &Case) -> u8 {

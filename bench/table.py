@@ -14,6 +14,9 @@ DENSITIES = ["dense", "sparse"]
 ROWS = ["read", "mask", "drop", "cut", "build", "count"]
 EDITS = ["mask", "drop", "cut"]
 ALONE = ["check", "tally"]
+STORED = ["read", "check", "tally", "mask", "drop", "cut"]
+TURNED = ["turn", "unpack", "unpack-forward"]
+TURNED_SIZES = ["150", "151", "1000", "1001", "15999", "16000"]
 
 
 def sides(path):
@@ -64,6 +67,52 @@ def whole(cost):
     return markdown(head, lines)
 
 
+def taken(row, bases, who):
+    """How many bases a call on a stored read unpacks and packs, all SEQ together."""
+    bases = int(bases)
+    if row == "cut":
+        return 2 * bases - 2 * (bases // 10)
+    return 2 * bases if row == "mask" or who == "session" else bases
+
+
+def beside_plain(cost, row, bases, density, who):
+    """A plain call, the same call on a stored read, what it takes more for each base that is unpacked or packed, and its ratio to the Rust's."""
+    plain, packed, rust = (row, bases, density, who), (f"stored-{row}", bases, density, who), (f"stored-{row}", bases, density, "rust")
+    if packed not in cost:
+        return [""] * 4
+    above = (cost[packed] - cost[plain]) / taken(row, bases, who)
+    return [number(cost, plain), number(cost, packed), f"{above:.2f}", ratio(cost, packed, rust)]
+
+
+def stored(cost):
+    """The calls on stored reads, beside the plain calls and the Rust's unpacking, `reverse_complement` and edit."""
+    head = ["call", "bases", "tags", "Rust", "plain", "stored", "a base", "x Rust", "session, plain", "session, stored", "a base", "x Rust"]
+    lines = []
+    for row in TURNED:
+        for bases in TURNED_SIZES:
+            rust, rattle = ((row, bases, "dense", who) for who in ("rust", "rattle"))
+            each = f"{cost[rattle] / int(bases):.2f}"
+            known = [number(cost, rust), "", number(cost, rattle), each, ratio(cost, rattle, rust)]
+            lines.append([row, f"{int(bases):,}", "", *known] + [""] * 4)
+    for row in STORED:
+        for bases in SIZES:
+            for density in DENSITIES:
+                sides = [beside_plain(cost, row, bases, density, who) for who in ("rattle", "session")]
+                rust = number(cost, (f"stored-{row}", bases, density, "rust"))
+                lines.append([row, f"{int(bases):,}", density, rust] + sides[0] + sides[1])
+    return markdown(head, lines)
+
+
+def short_turned(cost):
+    """Only ratios, of turning and unpacking, with a column for each length."""
+    head = ["x the Rust's"] + [f"{int(bases):,}" for bases in TURNED_SIZES]
+
+    def line(row):
+        return [row] + [ratio(cost, (row, bases, "dense", "rattle"), (row, bases, "dense", "rust")) for bases in TURNED_SIZES]
+
+    return markdown(head, [line(row) for row in TURNED])
+
+
 def short(cost):
     """Only ratios, with a line for each call and a column for each input."""
     inputs = [(bases, density) for bases in SIZES for density in DENSITIES]
@@ -75,7 +124,11 @@ def short(cost):
     lines = [line("read", "read"), line("read, x htslib's", "read", to="htslib")]
     for row in EDITS:
         lines += [line(row, row), line(f"{row}, a session's step", row, who="session")]
-    return markdown(head, lines + [line("build", "build"), line("count", "count")])
+    lines += [line("build", "build"), line("count", "count")]
+    for row in EDITS:
+        kept = f"stored-{row}"
+        lines += [line(f"{row}, stored", kept), line(f"{row}, stored, a session's step", kept, who="session")]
+    return markdown(head, lines) + "\n" + short_turned(cost)
 
 
 def put(path, name, table):
@@ -96,9 +149,12 @@ def main():
     count = instructions(out)
     time, spread = times(out)
     said = f"Largest distance of one of the runs from the median: {100 * spread:.0f} %.\n"
-    print("Instructions\n\n" + whole(count) + "\nNanoseconds\n\n" + whole(time) + "\n" + said)
+    for name, cost in ("Instructions", count), ("Nanoseconds", time):
+        print(f"{name}\n\n{whole(cost)}\n{stored(cost)}")
+    print(said)
     if write:
         put("docs/BENCHMARKS.md", "instructions", whole(count))
+        put("docs/BENCHMARKS.md", "stored reads", stored(count))
         put("docs/BENCHMARKS.md", "times", short(time) + "\n" + said)
         put("docs/BENCHMARKS.md", "ratios", short(count))
 

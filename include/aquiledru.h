@@ -7,17 +7,21 @@
  *   refuse returns what its comment says: a byte, a yes or no, a length, or nothing.
  * - Rows. A row is a pointer and its number of entries (not of bytes). NULL with 0 entries is an empty row. The bytes of an input may be anything; no
  *   zero byte ends a text, neither one that is read nor one that is written. No call keeps a pointer, allocates, or has any state.
- * - Orientation. SEQ, MM and ML are given in the read's own orientation, with one byte for each base. A BAM record holds the SEQ of a reverse read (flag
- *   0x10) reverse-complemented and packed: the caller unpacks it and reverse-complements it first. No call here does this.
+ * - Orientation. MM and ML are always in the read's own orientation. So is SEQ, with one byte for each base, except in the part "Reads as a BAM record
+ *   stores them": those calls take SEQ packed, two bases to a byte, and if `reverse` is not 0 (the record's flag 0x10) reverse-complemented, and count
+ *   everything in the stored read. aql_unpack gives the bases of a stored read as the other calls take them.
  * - What the caller owes, since no call can check it: a pointer leads to as many entries as its length or room says; a pointer to one number or to an
  *   array is not NULL; what a call may write (a row, a number or an array without const) overlaps nothing else that is given to the same call; during
  *   the call nobody else writes to any of it or reads what the call may write; the stack has room for the call. Rows that are only read may overlap one
  *   another.
  * - Stack. No theorem bounds it, and a program can end at its stack's guard page. tools/stack-use reads the stack off the machine code, without that of C's
  *   memcpy and memset; docs/STACK.md has the bytes of each call. A call takes at most:
- *     20,000 bytes: aql_drop_modifications_at, aql_session_mask, aql_session_drop_calls, aql_transcript, aql_duplex_methylation_tags;
- *      3,000 bytes: aql_drop_masked_modifications, aql_trim_clipped_modifications, aql_session_cut, aql_build_mm_ml_tags, aql_build_mm_tag_no_ml;
- *        400 bytes: every other.
+ *     40,000 bytes: aql_stored_drop_masked_modifications, aql_stored_drop_modifications_at, aql_stored_trim_clipped_modifications, aql_stored_mask,
+ *                   aql_stored_drop_calls;
+ *     20,000 bytes: aql_drop_modifications_at, aql_session_mask, aql_session_drop_calls, aql_stored_check_tag, aql_stored_read_calls, aql_stored_tally,
+ *                   aql_stored_open, aql_stored_cut, aql_transcript, aql_duplex_methylation_tags;
+ *      3,200 bytes: aql_drop_masked_modifications, aql_trim_clipped_modifications, aql_session_cut, aql_build_mm_ml_tags, aql_build_mm_tag_no_ml;
+ *        600 bytes: every other.
  * - Yes and no. A uint8_t that asks for a yes is yes for every value but 0; so is each byte of informative and of read_aligned. An answered yes is 1, a
  *   no 0.
  * - Patterns are given by a read's SAM flags: with 0x80 clear the read shows C to T, with 0x80 set G to A. The other flags are ignored.
@@ -38,7 +42,7 @@ extern "C" {
 #endif
 
 /* The version, which `tagedit --version` prints and CHANGELOG.md describes. */
-#define AQL_VERSION "0.1.0"
+#define AQL_VERSION "0.2.0"
 
 /* The numbers. With any number except 0 everything that was lent is unchanged. If several apply, the first in this order is returned: 13, 1, 2, 21, 11,
  * 3, 4; then the text from the left, 5 at a header and at each entry 6, 7, 8, 10; after the last group 9, or in a build 20; last 12. The last line of a
@@ -46,7 +50,8 @@ extern "C" {
 enum {
     AQL_DONE = 0,
     AQL_TOO_LONG = 1,            /* an input is longer than the domain allows */
-    AQL_LENGTHS_DISAGREE = 2,    /* lengths that must be equal are not; a session's row is shorter than its length */
+    AQL_LENGTHS_DISAGREE = 2,    /* lengths that must be equal are not; a session's row is shorter than its length; packed bytes are not as many as the
+                                    bases take, or at a step on a stored read fewer */
     AQL_MM_NOT_ASCII = 3,        /* a byte above 127 in MM */
     AQL_MM_NOT_CLOSED = 4,       /* the last byte of MM is not ';', or MM is empty */
     AQL_SHORT_HEADER = 5,        /* a group's header is shorter than two bytes */
@@ -64,7 +69,7 @@ enum {
 
 /* The domain. A longer input is refused with 1. Any length is allowed for output rows, the rows of a session, lists of places, the reference, and
  * ref_bases. */
-#define AQL_MAX_SEQ 16000u        /* bases of SEQ, before, after, consensus, and of the read of a CIGAR; entries of an evidence column */
+#define AQL_MAX_SEQ 16000u        /* bases of SEQ, packed or not, before, after, consensus, and of the read of a CIGAR; entries of an evidence column */
 #define AQL_MAX_MM 65536u         /* bytes of MM; bytes of ML */
 #define AQL_MAX_READS 4096u       /* reads of one count */
 #define AQL_MAX_READ_BASES 1048576u /* bases of these reads together; one of them may have more than AQL_MAX_SEQ */
@@ -368,6 +373,114 @@ uint8_t aql_session_drop_calls(const uint8_t *seq, size_t seq_room, uint8_t *mm,
  * Answers 0, 1 to 9, 11, 21. */
 uint8_t aql_session_cut(uint8_t *seq, size_t seq_room, uint8_t *mm, size_t mm_room, uint8_t *ml, size_t ml_room, uint8_t has_ml,
                         size_t lengths[AQL_SESSION_LENGTHS], uint32_t front, uint32_t back);
+
+/* --- Reads as a BAM record stores them ---------------------------------------------------------------------------------------------- */
+
+/* How a read is stored. A packed SEQ has two bases in each byte, the first of them in the high half. A half is a code from 0 to 15: the place of the
+ * base's letter in =ACMGRSVTWYHKDBN. n bases take (n + 1) / 2 bytes. If n is odd, the low half of the last byte is spare: it is never read, and is
+ * written as 0. A reverse read is stored reverse-complemented, that is turned: its bases in reverse order, and each of them complemented, by the letters
+ * =TGKCYSBAWRDMHVN in the order above. The bases in read orientation are the unpacked bases, turned if `reverse` is not 0.
+ * MM and ML stay in read orientation and are never turned. Everything else is counted in the stored read: with `reverse` place p of n bases is the place
+ * n - 1 - p in read orientation, so that front and back of a cut change ends, and the start s of a window of k bases is n - k - s (unknown, if the
+ * window does not fit). A call here does what the call of the same name does on the bases in read orientation, and what it gives of SEQ and of places is
+ * turned back. With `reverse` 0 the same calls serve a forward read.
+ * Numbers are returned in the same order: 1 by the stated number of bases, and 2 if the packed bytes are not as many as these bases take, also if there
+ * are more of them. */
+
+/* Turns a packed SEQ: writes its reverse complement, packed, to the front of out. Turned twice, it is what it was, with a spare half of 0.
+ * Returns 0 and writes the number of bytes to *out_len; 1 if there are more than 16,000 bases; 2 if packed_len is not (bases + 1) / 2; 12 if out has no
+ * room.
+ * Answers 0, 1, 2, 12. */
+uint8_t aql_turn(const uint8_t *packed, size_t packed_len, size_t bases, uint8_t *out, size_t out_room, size_t *out_len);
+
+/* Writes the letters of a stored read to the front of seq, one byte for each base, in read orientation.
+ * Returns 0 and writes the number of bases to *seq_len; 1 and 2 as aql_turn; 12 if seq has no room.
+ * Answers 0, 1, 2, 12. */
+uint8_t aql_unpack(const uint8_t *packed, size_t packed_len, size_t bases, uint8_t reverse, uint8_t *seq, size_t seq_room, size_t *seq_len);
+
+/* Reads the tag of a stored read and counts its groups and calls, as aql_check_tag does.
+ * Returns 0 and writes both numbers to *groups and *calls; 1 if there are more than 16,000 bases, or MM or ML is too long; 2 as aql_turn; 3 to 9 as
+ * aql_check_tag.
+ * Answers 0, 1 to 9. */
+uint8_t aql_stored_check_tag(const uint8_t *packed, size_t packed_len, size_t bases, uint8_t reverse,
+                             const uint8_t *mm, size_t mm_len, const uint8_t *ml, size_t ml_len, uint8_t has_ml, size_t *groups, size_t *calls);
+
+/* Lists the calls of a stored read's tag in three columns, as aql_read_calls does. The places are those of the stored read. The calls come in the order
+ * of the tag, so that with `reverse` the places of a group fall.
+ * Returns as aql_stored_check_tag does, and fills the front of each column; 12 if a column has no room.
+ * Answers 0, 1 to 9, 12. */
+uint8_t aql_stored_read_calls(const uint8_t *packed, size_t packed_len, size_t bases, uint8_t reverse,
+                              const uint8_t *mm, size_t mm_len, const uint8_t *ml, size_t ml_len, uint8_t has_ml,
+                              uint32_t *call_groups, size_t call_groups_room, uint32_t *call_places, size_t call_places_room,
+                              uint32_t *call_starts, size_t call_starts_room, size_t *groups, size_t *calls);
+
+/* Reads the tag of a stored read and counts the values of its ML, as aql_tally does.
+ * Returns 0 and writes both numbers to *above and *below; 1 to 9 as aql_stored_check_tag.
+ * Answers 0, 1 to 9. */
+uint8_t aql_stored_tally(const uint8_t *packed, size_t packed_len, size_t bases, uint8_t reverse,
+                         const uint8_t *mm, size_t mm_len, const uint8_t *ml, size_t ml_len, size_t *above, size_t *below);
+
+/* Rewrites the tag of a stored read after its SEQ was masked from `before` to `after`, as aql_drop_masked_modifications does.
+ * Returns as aql_drop_masked_modifications does; 1 also if a stated number of bases is over 16,000; 2 if the bytes of before or of after are not as many
+ * as its bases take, or the two differ in bases.
+ * Answers 0, 1 to 9, 12. */
+uint8_t aql_stored_drop_masked_modifications(const uint8_t *before, size_t before_len, size_t before_bases,
+                                             const uint8_t *after, size_t after_len, size_t after_bases, uint8_t reverse,
+                                             const uint8_t *mm, size_t mm_len, const uint8_t *ml, size_t ml_len, uint8_t has_ml,
+                                             uint8_t *mm_out, size_t mm_out_room, uint8_t *ml_out, size_t ml_out_room,
+                                             size_t *mm_out_len, size_t *ml_out_len);
+
+/* Drops the calls at the places of the stored read, in every group, as aql_drop_modifications_at does. A place past SEQ's end does nothing.
+ * Returns as aql_drop_modifications_at does; 1 and 2 as aql_stored_check_tag.
+ * Answers 0, 1 to 10, 12. */
+uint8_t aql_stored_drop_modifications_at(const uint8_t *packed, size_t packed_len, size_t bases, uint8_t reverse,
+                                         const uint32_t *places, size_t places_len,
+                                         const uint8_t *mm, size_t mm_len, const uint8_t *ml, size_t ml_len, uint8_t has_ml,
+                                         uint8_t *mm_out, size_t mm_out_room, uint8_t *ml_out, size_t ml_out_room,
+                                         size_t *mm_out_len, size_t *ml_out_len);
+
+/* Rewrites the tag of a stored read after its SEQ was cut from `before` to `after`, as aql_trim_clipped_modifications does. start is counted from the
+ * stored front of `before`. The two are compared by their bases, so that a spare half plays no part.
+ * Returns as aql_trim_clipped_modifications does; 1 also if a stated number of bases is over 16,000; 2 if the bytes of before or of after are not as many
+ * as its bases take; 21 if both have the same bases. 2 comes before 21.
+ * Answers 0, 1 to 9, 11, 12, 21. */
+uint8_t aql_stored_trim_clipped_modifications(const uint8_t *before, size_t before_len, size_t before_bases,
+                                              const uint8_t *after, size_t after_len, size_t after_bases, uint8_t reverse,
+                                              uint8_t start_known, size_t start,
+                                              const uint8_t *mm, size_t mm_len, const uint8_t *ml, size_t ml_len, uint8_t has_ml,
+                                              uint8_t *mm_out, size_t mm_out_room, uint8_t *ml_out, size_t ml_out_room,
+                                              size_t *mm_out_len, size_t *ml_out_len);
+
+/* A session on a stored read is a packed SEQ, MM and ML in three rows of the caller's, and the array of lengths: its entry AQL_SESSION_SEQ is the number
+ * of bases, the other two are those of any session. After a step that returns 0, the front of packed holds the edited SEQ, packed anew, with a spare half
+ * of 0 (after a drop too), and the bytes past it stay as they were. So after a cut the row has more bytes than the bases take, and the next step goes on:
+ * a step asks for no fewer bytes, while the opening asks for exactly as many. A step that returns any other number has changed nothing, the spare half
+ * included. */
+
+/* Opens a session on a stored read: checks its lengths and reads its tag. Returns 0 and writes how many groups and calls the tag has to *groups and
+ * *calls; 1 if a length is over the domain; 2 if packed_len is not as many bytes as the bases take, or the length of MM or ML is over its row; then 3 to
+ * 9 as aql_check_tag.
+ * Answers 0, 1 to 9. */
+uint8_t aql_stored_open(const uint8_t *packed, size_t packed_len, uint8_t reverse, const uint8_t *mm, size_t mm_room,
+                        const uint8_t *ml, size_t ml_room, uint8_t has_ml, const size_t lengths[AQL_SESSION_LENGTHS], size_t *groups, size_t *calls);
+
+/* Masks the listed places of the stored read, as aql_session_mask does. Returns 0 and writes the new lengths; 1 to 9 as aql_stored_open, but 2 for
+ * packed only if it has fewer bytes than the bases take.
+ * Answers 0, 1 to 9. */
+uint8_t aql_stored_mask(uint8_t *packed, size_t packed_room, uint8_t reverse, uint8_t *mm, size_t mm_room, uint8_t *ml, size_t ml_room, uint8_t has_ml,
+                        size_t lengths[AQL_SESSION_LENGTHS], const uint32_t *places, size_t places_len);
+
+/* Drops the calls at the listed places of the stored read, as aql_session_drop_calls does. SEQ keeps its bases, and its spare half becomes 0.
+ * Returns as aql_stored_mask does; 10 as aql_session_drop_calls.
+ * Answers 0, 1 to 10. */
+uint8_t aql_stored_drop_calls(uint8_t *packed, size_t packed_room, uint8_t reverse, uint8_t *mm, size_t mm_room, uint8_t *ml, size_t ml_room,
+                              uint8_t has_ml, size_t lengths[AQL_SESSION_LENGTHS], const uint32_t *places, size_t places_len);
+
+/* Cuts `front` bases off the front of the stored read and `back` bases off its back, as aql_session_cut does; what is left moves to the front of packed.
+ * Returns as aql_stored_mask does; 21 and 11 as aql_session_cut.
+ * Answers 0, 1 to 9, 11, 21. */
+uint8_t aql_stored_cut(uint8_t *packed, size_t packed_room, uint8_t reverse, uint8_t *mm, size_t mm_room, uint8_t *ml, size_t ml_room, uint8_t has_ml,
+                       size_t lengths[AQL_SESSION_LENGTHS], uint32_t front, uint32_t back);
 
 /* --- The program tagedit as a function ---------------------------------------------------------------------------------------------- */
 

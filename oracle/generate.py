@@ -3,9 +3,10 @@
 
     python3 oracle/generate.py --calls Q,CPG --seed 7 --share 0.1 > requests
 
-For each call there are five sorts of requests: *stated* ones, whose answers the documents give (stated.py);
+For each call there are six sorts of requests: *stated* ones, whose answers the documents give (stated.py);
 *short* ones, all of them up to a small size; *boundary* ones, at and around the bounds of the domain and of the
-program's buffers; *random* ones, many of them with room exactly as needed or one less; and *malformed* lines.
+program's buffers; *rows*, of about 1,024 bases, for a call that takes a small row for its marks up to there and a
+large one above; *random* ones, many of them with room exactly as needed or one less; and *malformed* lines.
 A share below 1 takes that part of the short and the random requests; the other sorts are always complete. The
 boundary requests of a call come in order of importance, since a frozen list takes only the first of them.
 """
@@ -633,6 +634,27 @@ def boundary_drop():
     yield p.drop(*many_groups(21_845), [3])
 
 
+# A call takes one row for at most 1,024 bases, and another one for more.
+ROW_LENGTHS = (1_024, 1_025, 1_023)
+
+
+def listed_at_ends(length):
+    """A tag with calls on two bases at each end of a SEQ of all sixteen letters, C only at the ends."""
+    seq = b"CC" + (model.LETTERS.replace(b"C", b"") * 70)[: length - 4] + b"CC"
+    return b"C+m?,0,0,0,0;N+n?,0,%d;" % (length - 2), b"\1\x7f\x80\xff\2\x81", seq
+
+
+def places_at_ends(length):
+    """Places of which a wrong row would miss some, or take one more: at the end, at both ends, and past the end."""
+    return [length - 1], [0, length - 2], [length, length - 1, 1], [length]
+
+
+def rows_drop():
+    for length in ROW_LENGTHS:
+        for places in places_at_ends(length):
+            yield p.drop(*listed_at_ends(length), places)
+
+
 def short_cut():
     tags = [(b"C+m?,0;", None), (b"C+m,1;", b"\1"), (b"N+mh?,0,0;", b"\1\2\3\4"), (b"C+m?;", b""), (b"C", None)]
     seqs = list(words_over(letters(b"CN"), 3))
@@ -712,6 +734,401 @@ def boundary_step():
     yield p.whole_step(seq, mm, ml, "DR", range(0, 16_000, 3))
 
 
+def rows_step():
+    for length in ROW_LENGTHS:
+        mm, ml, seq = listed_at_ends(length)
+        for kind, places in itertools.product(("MK", "DR"), places_at_ends(length)):
+            yield p.whole_step(seq, mm, ml, kind, places)
+        yield p.whole_step(seq, mm, ml, "CU", [1, 0])
+        yield p.whole_step(seq, mm, ml, "CU", [0, 1])
+
+
+# ---- Reads as a BAM record stores them ---------------------------------------------------------
+
+# Groups may be on any letter that a packed SEQ can hold; a group on a turned letter is read at other places.
+STORED_HEADERS = HEADERS + [b"=+m?", b"M+m?", b"K+m", b"R-a?", b"B-h?", b"V+hm?", b"D+z?", b"H+z", b"Y+b?", b"S+b?", b"W+b?"]
+ODD_COUNTS = [0, 1, 2, 16_000, 16_001, 2**32, 2**63, U64 - 1, U64]
+
+
+def stored(seq, reverse, spare=0):
+    """The packed bytes of a read whose bases in read orientation are `seq`; at odd lengths with that spare half."""
+    packed = bytearray(model.repacked(model.turned(seq) if reverse else seq))
+    if len(seq) % 2:
+        packed[-1] |= spare
+    return bytes(packed)
+
+
+def stored_seq(rng):
+    """Bases in read orientation, of all sixteen letters."""
+    alphabet = rng.choice((b"AACCCCCCGGGTTN", b"AACCCCCCGGGTTN", model.LETTERS, b"CGN"))
+    return pick_bytes(rng, alphabet, rng.choice((0, 1, 2, 3, 3, 4, 5, 7, 8, 13, 21, 34, 35)))
+
+
+def packed_pair(rng, seq, reverse):
+    """The stated number of bases and the packed bytes; now and then they disagree."""
+    count, packed = len(seq), stored(seq, reverse, rng.randrange(16))
+    chance = rng.random()
+    if chance < 0.02:
+        packed = packed[:-1]
+    elif chance < 0.04:
+        packed += rng.randbytes(1)
+    elif chance < 0.06:
+        count += rng.choice((-2, -1, 1, 2))
+    elif chance < 0.07:
+        count = rng.choice(ODD_COUNTS)
+    return max(0, count), packed
+
+
+def short_pairs():
+    """Every byte as no base, one, two and three; and three and four bases in two bytes."""
+    for byte, count in itertools.product(range(256), range(4)):
+        yield count, bytes([byte])
+    for first, second in itertools.product((0x00, 0x12, 0x48, 0xF1, 0x3C), (0x00, 0x4F, 0x80, 0x8D, 0xFF)):
+        for count in range(6):
+            yield count, bytes([first, second])
+    yield from ((count, b"") for count in ODD_COUNTS)
+
+
+def boundary_pairs():
+    for count in (16_000, 15_999, 16_001, 15_998):
+        packed = stored((model.LETTERS * 1_001)[:count], 0, 9)
+        yield count, packed
+        yield count, packed[:-1]
+        yield count, packed + b"\1"
+    yield 16_001, b""
+    yield 3, bytes(8_001)
+    yield 3, bytes(65_537)
+    yield 3, bytes(65_538)
+    for count in ("00", "0" * 40 + "1", U64 + 1, "-0", "-", "*"):
+        yield count, b"\x12"
+
+
+def random_pair(rng):
+    """Whether the read is reverse, the stated number of bases and the packed bytes."""
+    reverse = rng.randint(0, 1)
+    return reverse, *packed_pair(rng, stored_seq(rng), reverse)
+
+
+def short_turn():
+    return (p.turn(count, packed) for count, packed in short_pairs())
+
+
+def random_turn(rng):
+    return p.turn(*random_pair(rng)[1:])
+
+
+def boundary_turn():
+    for count, packed in boundary_pairs():
+        yield p.turn(count, packed)
+    for room in (8_000, 7_999):
+        yield p.turn(15_999, stored(b"ACG" * 5_333, 0, 15), room=room)
+
+
+def rows_of_reads():
+    """Stored reads of about 1,024 bases with calls at both ends, forward and reverse: whether reverse, the number of bases, the packed bytes, text and ML."""
+    for length, reverse in itertools.product(ROW_LENGTHS, (0, 1)):
+        mm, ml, seq = listed_at_ends(length)
+        yield reverse, length, stored(seq, reverse, 11), mm, ml
+
+
+def rows_turn():
+    for _, count, packed, _, _ in rows_of_reads():
+        yield p.turn(count, packed)
+
+
+def short_unpack():
+    for (count, packed), reverse in itertools.product(short_pairs(), (0, 1)):
+        yield p.unpack(reverse, count, packed)
+
+
+def random_unpack(rng):
+    return p.unpack(*random_pair(rng))
+
+
+def boundary_unpack():
+    for reverse, (count, packed) in enumerate(boundary_pairs()):
+        yield p.unpack(reverse % 2, count, packed)
+    for room in (15_999, 15_998):
+        yield p.unpack(1, 15_999, stored(b"ACG" * 5_333, 1, 15), room=room)
+    for reverse in ("2", "-", "00", "01"):
+        yield p.tab("K1.UNPACK", reverse, 1, "10")
+
+
+def rows_unpack():
+    for reverse, count, packed, _, _ in rows_of_reads():
+        yield p.unpack(reverse, count, packed)
+
+
+def stored_tags():
+    """The tags at and around the bounds, each with a read's packed bytes, reverse by turns."""
+    for turn, (mm, ml, seq) in enumerate(large_tags()):
+        reverse = turn % 2
+        yield reverse, len(seq), stored(seq, reverse, turn % 16), mm, ml
+
+
+def short_stored_calls():
+    for mm in short_texts(symbols=2, tokens=3):
+        for turn, ml in enumerate(near_mls(mm)):
+            reverse = (len(mm) + turn) % 2
+            yield p.stored_calls(reverse, 3, stored(b"CAC", reverse, turn), mm, ml)
+    for turn, seq in enumerate(words_over(letters(b"CGN="), 3)):
+        for reverse, mm in itertools.product((0, 1), (b"C+m?,0;", b"N+m?,1;", b"=+a?,0;G-m;", b"N+n?,0,0;")):
+            yield p.stored_calls(reverse, len(seq), stored(seq, reverse, turn % 16), mm, None)
+
+
+def random_stored_calls(rng):
+    seq, reverse = stored_seq(rng), rng.randint(0, 1)
+    return p.stored_calls(reverse, *packed_pair(rng, seq, reverse), *random_tag(rng, seq, STORED_HEADERS))
+
+
+def boundary_stored_calls():
+    for reverse, count, packed, mm, ml in stored_tags():
+        yield p.stored_calls(reverse, count, packed, mm, ml)
+    mm, ml, seq = all_listed(15_999)
+    for room in (15_999, 15_998):
+        yield p.stored_calls(1, 15_999, stored(seq, 1, 3), mm, ml, room=room)
+    for count, packed in boundary_pairs():
+        yield p.stored_calls(1, count, packed, b"C+m?;", None)
+    # 1 comes before 2, and 2 before the text's own numbers.
+    yield p.stored_calls(0, 3, b"", b"C+m?" * 16_385, None)
+    yield p.stored_calls(0, 3, b"", b"", b"\0" * 65_537)
+    yield p.stored_calls(1, 3, b"", b"\xff", None)
+
+
+def rows_stored_calls():
+    for reverse, count, packed, mm, ml in rows_of_reads():
+        yield p.stored_calls(reverse, count, packed, mm, ml)
+        yield p.stored_calls(reverse, count, packed, mm, None)
+        # One base more is stated: the spare half is a base, or the bytes are too few.
+        yield p.stored_calls(reverse, count + 1, packed, mm, ml)
+        # The last skip leads past the read's end.
+        yield p.stored_calls(reverse, count, packed, mm.replace(b",0;", b",1;"), ml)
+
+
+def stored_edits():
+    """Short tags with every set of places, on forward and reverse reads: of four bases, with an ML that fits and with one of the near MLs by turns; and of
+    five bases and a spare half that is not 0, with one of these two."""
+    choices = itertools.cycle(range(4))
+    for mm in short_texts(symbols=1, tokens=2):
+        mls = near_mls(mm)
+        for places, reverse in itertools.product(subsets(range(4)), (0, 1)):
+            for ml in dict.fromkeys((mls[1], mls[next(choices) % len(mls)])):
+                yield reverse, 4, stored(b"CCAC", reverse), mm, ml, places
+        for turn, (places, reverse) in enumerate(itertools.product(subsets(range(5)), (0, 1))):
+            ml = mls[1] if turn % 4 < 2 else mls[next(choices) % len(mls)]
+            yield reverse, 5, stored(b"CCACC", reverse, turn % 15 + 1), mm, ml, places
+
+
+def masked_stored(count, packed, places):
+    """The packed bytes with N at places of the stored read, and the spare half as it was."""
+    after = masked_at(model.unpacked(count, packed), places)
+    spare = packed[-1] & 15 if packed else 0
+    return stored(after, 0, spare)
+
+
+def short_stored_mask():
+    for reverse, count, before, mm, ml, places in stored_edits():
+        yield p.stored_mask(reverse, count, before, count, masked_stored(count, before, places), mm, ml)
+    words = list(words_over(letters(b"CGN"), 2))
+    for turn, (before, after) in enumerate(itertools.product(words, words)):
+        for reverse in (0, 1):
+            pair = len(before), stored(before, reverse, turn % 16), len(after), stored(after, reverse, turn % 7)
+            yield p.stored_mask(reverse, *pair, b"C+m?,0;N+n.;", b"\1")
+
+
+def random_stored_mask(rng):
+    seq, reverse = stored_seq(rng), rng.randint(0, 1)
+    after = bytearray(masked_at(seq, some_places(rng, len(seq))))
+    if after and rng.random() < 0.15:
+        after[rng.randrange(len(after))] = rng.choice(model.LETTERS)
+    if rng.random() < 0.03:
+        after = after + b"N" if rng.random() < 0.5 else after[:-1]
+    pairs = *packed_pair(rng, seq, reverse), *packed_pair(rng, bytes(after), reverse)
+    return p.stored_mask(reverse, *pairs, *random_tag(rng, seq, STORED_HEADERS))
+
+
+def boundary_stored_mask():
+    for reverse, count, packed, mm, ml in stored_tags():
+        after = masked_stored(count, packed, range(1, count, 2))
+        yield p.stored_mask(reverse, count, packed, count, after, mm, ml)
+    mm, ml, seq = all_listed(15_999)
+    packed = stored(seq, 1, 7)
+    after = masked_stored(15_999, packed, range(1, 15_999, 2))
+    for room in ((16_005, 8_000), (16_004, 8_000), (16_005, 7_999)):
+        yield p.stored_mask(1, 15_999, packed, 15_999, after, mm, ml, room=room)
+    yield p.stored_mask(0, 16_000, bytes(8_000), 16_001, bytes(8_001), b"C+m?;", None)
+    yield p.stored_mask(0, 16_001, bytes(8_001), 16_000, bytes(8_000), b"C+m?;", None)
+    # Equally many bytes, and still not equally many bases.
+    yield p.stored_mask(1, 15_999, bytes(8_000), 16_000, bytes(8_000), b"C+m?;", None)
+    yield p.stored_mask(1, 3, bytes(2), 16_001, bytes(2), b"", None)
+    yield p.stored_mask(1, 3, bytes(1), 3, bytes(2), b"", None)
+    yield p.stored_mask(1, 3, bytes(2), 3, bytes(3), b"", None)
+
+
+def rows_stored_mask():
+    for reverse, count, packed, mm, ml in rows_of_reads():
+        for places in places_at_ends(count):
+            yield p.stored_mask(reverse, count, packed, count, masked_stored(count, packed, places), mm, ml)
+        # One base more and one fewer after the mask, so that the two SEQs take different rows.
+        for other in (count + 1, count - 1):
+            yield p.stored_mask(reverse, count, packed, other, stored(b"C" * other, reverse), mm, ml)
+
+
+def short_stored_drop():
+    for reverse, count, packed, mm, ml, places in stored_edits():
+        yield p.stored_drop(reverse, count, packed, places, mm, ml)
+    for turn, (count, reverse) in enumerate(itertools.product(range(6), (0, 1))):
+        for place in range(8):
+            mm = b"C+m?" + b",0" * count + b";"
+            yield p.stored_drop(reverse, count, stored(b"C" * count, reverse, turn % 16), [place], mm, bytes(range(count)))
+
+
+def random_stored_drop(rng):
+    seq, reverse = stored_seq(rng), rng.randint(0, 1)
+    droppable = [header for header in STORED_HEADERS if header.endswith(b"?")]
+    tag = random_tag(rng, seq, rng.choice((STORED_HEADERS, droppable, droppable)))
+    return p.stored_drop(reverse, *packed_pair(rng, seq, reverse), some_places(rng, len(seq)), *tag)
+
+
+def boundary_stored_drop():
+    for reverse, count, packed, mm, ml in stored_tags():
+        yield p.stored_drop(reverse, count, packed, [0, U64], mm, ml)
+    mm, ml, seq = all_listed(15_999)
+    packed = stored(seq, 1, 15)
+    yield p.stored_drop(1, 15_999, packed, range(15_999, -1, -1), mm, ml)
+    for room in ((16_005, 8_000), (16_004, 8_000)):
+        yield p.stored_drop(1, 15_999, packed, range(1, 15_999, 2), mm, ml, room=room)
+    for place in ("00", "0" * 40 + "1", U64 + 1, "-0", "-"):
+        yield p.stored_drop(1, 2, b"\x44", [place], b"C+m?,0,0;", None)
+    yield p.stored_drop(1, 1, b"\x4f", [0] * 65_537, b"C+m?,0;", b"\1")
+    yield p.stored_drop(1, 1, b"\x4f", [0] * 65_538, b"C+m?,0;", b"\1")
+    for way in ("new", "OLD", ".", "", "older"):
+        yield p.stored_drop(0, 1, b"\x20", [0], b"C+m?,0;", b"\1", way=way)
+
+
+def rows_stored_drop():
+    for reverse, count, packed, mm, ml in rows_of_reads():
+        for places in places_at_ends(count):
+            yield p.stored_drop(reverse, count, packed, places, mm, ml)
+
+
+def short_stored_cut():
+    tags = [(b"C+m?,0;", None), (b"N+mh?,0,0;", b"\1\2\3\4"), (b"C", None)]
+    words = list(words_over(letters(b"CGN"), 2)) + [b"CGC", b"GCN"]
+    for turn, (before, after, (mm, ml)) in enumerate(itertools.product(words, words, tags)):
+        for start, reverse in itertools.product((None, 0, 1, 2, 4), (0, 1)):
+            pair = len(before), stored(before, reverse, turn % 16), len(after), stored(after, reverse, turn % 7)
+            yield p.stored_cut(reverse, *pair, start, mm, ml)
+
+
+def random_stored_cut(rng):
+    seq, reverse = stored_seq(rng), rng.randint(0, 1)
+    front = rng.randint(0, len(seq)) if rng.random() < 0.8 else 0
+    back = rng.randint(front, len(seq)) if rng.random() < 0.8 else len(seq)
+    after = masked_at(seq[front:back], some_places(rng, back - front) if rng.random() < 0.5 else ())
+    if after and rng.random() < 0.05:
+        after = after[:-1] + pick_bytes(rng, model.LETTERS, 1)
+    start = len(seq) - back if reverse else front
+    if rng.random() < 0.12:
+        start = rng.choice((None, start + 1, max(0, start - 1), U64, len(seq)))
+    pairs = *packed_pair(rng, seq, reverse), *packed_pair(rng, after, reverse)
+    return p.stored_cut(reverse, *pairs, start, *random_tag(rng, seq, STORED_HEADERS))
+
+
+def boundary_stored_cut():
+    for reverse, count, packed, mm, ml in stored_tags():
+        after = stored(model.unpacked(count, packed)[1:], 0, 5)
+        yield p.stored_cut(reverse, count, packed, max(0, count - 1), after, 1, mm, ml)
+    mm, ml, seq = all_listed(15_999)
+    packed, after = stored(seq, 1, 1), stored(seq[1:], 1)
+    for room in ((32_001, 15_998), (32_000, 15_998), (32_001, 15_997)):
+        yield p.stored_cut(1, 15_999, packed, 15_998, after, 0, mm, ml, room=room)
+    yield p.stored_cut(1, 15_999, packed, 0, b"", 15_999, mm, ml)
+    yield p.stored_cut(1, 15_999, packed, 15_999, stored(seq, 1, 2), None, mm, ml)
+    yield p.stored_cut(0, 16_000, bytes(8_000), 16_001, bytes(8_001), 0, b"C+m?;", None)
+    # 2 comes before 21: the same bytes, of which there is one too many.
+    yield p.stored_cut(0, 2, b"\x11\x22", 2, b"\x11\x22", 0, b"", None)
+    for start in (U64, U64 - 1, U64 - 2, 2**63, 2**32):
+        yield p.stored_cut(1, 3, b"\x44\x40", 2, b"\x44", start, b"C+m?;", None)
+
+
+def rows_stored_cut():
+    """Cuts of one base at either end, so from 1,025 bases to 1,024 too; masks without a cut; and a window of one base more."""
+    for reverse, count, packed, mm, ml in rows_of_reads():
+        seq = model.unpacked(count, packed)
+        for start in (0, 1):
+            yield p.stored_cut(reverse, count, packed, count - 1, stored(seq[start:][: count - 1], 0, 6), start, mm, ml)
+        yield p.stored_cut(reverse, count, packed, count, masked_stored(count, packed, [0, count - 1]), None, mm, ml)
+        yield p.stored_cut(reverse, count, packed, count + 1, stored(seq + b"C", 0), 0, mm, ml)
+
+
+SHORT_STEPS = [
+    ("MK", [0]), ("MK", [1, 7]), ("MK", []), ("DR", [0]), ("DR", [2, 2]), ("DR", [U64]),
+    ("CU", [1, 0]), ("CU", [0, 1]), ("CU", [0, 0]), ("CU", [1, 9]), ("CU", [2, 1]),
+]
+
+
+def short_stored_session():
+    tags = [(b"C+m?,0;", b"\7"), (b"N+mh?,0;C+m;", b"\1\2"), (b"C+m?,0,0;", None), (b"C+m,0;", b"\3")]
+    turn = 0
+    for seq, steps in itertools.product((b"C", b"CC", b"CAC", b"CGNC", b"CCACC"), rows_over(SHORT_STEPS, 2)):
+        for reverse in (0, 1):
+            turn += 1
+            mm, ml = tags[turn // 2 % 4]
+            yield p.stored_session(reverse, len(seq), stored(seq, reverse, turn % 16), mm, ml, *steps)
+
+
+def random_session_step(rng, length):
+    kind = rng.choice(("MK", "DR", "CU"))
+    if kind != "CU":
+        return kind, some_places(rng, length)
+    ends = rng.randint(0, length // 3 + 1), rng.randint(0, length // 3 + 1)
+    return kind, rng.choice((ends, ends, ends, ends, ends, (0, 0), (U32, U32), (U64, 1), (length, 0)))
+
+
+def random_stored_session(rng):
+    seq, reverse = stored_seq(rng), rng.randint(0, 1)
+    steps = [random_session_step(rng, len(seq)) for _ in range(rng.choice((0, 1, 2, 3, 3, 4, 5, 8)))]
+    droppable = [header for header in STORED_HEADERS if header.endswith(b"?")]
+    tag = random_tag(rng, seq, rng.choice((STORED_HEADERS, droppable)))
+    return p.stored_session(reverse, *packed_pair(rng, seq, reverse), *tag, *steps)
+
+
+def boundary_stored_session():
+    for turn, (reverse, count, packed, mm, ml) in enumerate(stored_tags()):
+        steps = [("MK", [0, 2]), ("DR", [0]), ("CU", [1, 0]), ("DR", [1]), ("CU", [0, 2])]
+        yield p.stored_session(reverse, count, packed, mm, ml, *(steps[turn % 5 :] + steps[: turn % 5]))
+    mm, ml, seq = all_listed(16_000)
+    for reverse in (0, 1):
+        packed = stored(seq, reverse)
+        many = [("CU", [1, 0]), ("MK", [0, 15_998]), ("DR", range(1, 15_999, 3)), ("CU", [0, 15_997]), ("DR", [0, 1])]
+        yield p.stored_session(reverse, 16_000, packed, mm, ml, *many)
+        all_cut = [("CU", [8_000, 8_001]), ("CU", [0, 16_000]), ("MK", [0]), ("CU", [1, 0])]
+        yield p.stored_session(reverse, 16_000, packed, mm, ml, *all_cut)
+    for count, packed in boundary_pairs():
+        yield p.stored_session(1, count, packed, b"C+m?;", None, ("CU", [1, 0]))
+    mm, ml, seq = all_listed(91)
+    many = [("MK", [1]), ("DR", [2]), ("CU", [0, 1])]
+    yield p.stored_session(1, 91, stored(seq, 1, 5), mm, ml, *(many * 30))
+    yield p.stored_session(1, 91, stored(seq, 1, 5), mm, ml, *(many * 1_000))
+    usual = 0, 2, b"\x22", b"C+m?,0;", b"\1"
+    for way in ("new", "", "old "):
+        yield p.stored_session(*usual, ("MK", [0]), way=way)
+    odd_steps = ["MK", "MK:", "mk:0", "MK:0,", "CU:1", "CU:1,2,3", "CU:*", "XX:0", "MK0", "MK::0", "DR:-", "", "MK:00,0", "@1,1"]
+    for step in (*odd_steps, "DR:" + str(U64 + 1)):
+        yield p.stored_session(*usual) + "\t" + step
+
+
+def rows_stored_session():
+    """One step of each kind at both ends; and a cut of one base, after which the other steps may take the smaller row."""
+    for reverse, count, packed, mm, ml in rows_of_reads():
+        for kind, places in itertools.product(("MK", "DR"), places_at_ends(count)):
+            yield p.stored_session(reverse, count, packed, mm, ml, (kind, places))
+        for ends in ([1, 0], [0, 1]):
+            later = [("DR", [count - 2]), ("MK", [0]), ("CU", [1, 1])]
+            yield p.stored_session(reverse, count, packed, mm, ml, ("CU", ends), *later)
+
+
 # ---- All calls ---------------------------------------------------------------------------------
 
 # By call: all short requests, one random request, the boundary requests, and the number of random requests in a whole run.
@@ -734,6 +1151,25 @@ SOURCES = {
     "DROP": (short_drop, random_drop, boundary_drop, 20_000),
     "CUT": (short_cut, random_cut, boundary_cut, 20_000),
     "STEP": (short_step, random_step, boundary_step, 20_000),
+    "K1.TURN": (short_turn, random_turn, boundary_turn, 2_000),
+    "K1.UNPACK": (short_unpack, random_unpack, boundary_unpack, 2_000),
+    "K1.CALLS": (short_stored_calls, random_stored_calls, boundary_stored_calls, 6_000),
+    "K1.PMASK": (short_stored_mask, random_stored_mask, boundary_stored_mask, 6_000),
+    "K1.PDROP": (short_stored_drop, random_stored_drop, boundary_stored_drop, 6_000),
+    "K1.PCUT": (short_stored_cut, random_stored_cut, boundary_stored_cut, 6_000),
+    "K1.PSES": (short_stored_session, random_stored_session, boundary_stored_session, 10_000),
+}
+# By call: the requests of about 1,024 bases, where the call chooses between two rows.
+ROWS = {
+    "DROP": rows_drop,
+    "STEP": rows_step,
+    "K1.TURN": rows_turn,
+    "K1.UNPACK": rows_unpack,
+    "K1.CALLS": rows_stored_calls,
+    "K1.PMASK": rows_stored_mask,
+    "K1.PDROP": rows_stored_drop,
+    "K1.PCUT": rows_stored_cut,
+    "K1.PSES": rows_stored_session,
 }
 CALLS = list(SOURCES)
 # These two calls work in place, so the lists lend them no room.
@@ -792,13 +1228,14 @@ def sample(rng, found, share):
 
 
 def sections(call, seed, share):
-    """The five sections of a call's requests, by name."""
+    """The sections of a call's requests, by name."""
     rng = random.Random(f"{seed} {call}")
     short, _, boundary, count = SOURCES[call]
     return {
         "stated": of_call(call),
         "short": sample(rng, short(), share),
         "boundary": list(boundary()),
+        "rows": list(ROWS[call]()) if call in ROWS else [],
         "random": list(random_section(call, rng, int(count * share))),
         "malformed": list(malformed(call, rng)),
     }

@@ -122,6 +122,40 @@ def whole_step(seq, mm, ml, kind, arguments):
     return step(seq, mm, ml, [len(seq), len(mm), len(ml or b"")], kind, arguments)
 
 
+# ---- Stored reads: packed bytes, with the number of bases that is stated for them ----------------
+
+
+def turn(count, packed, room=None):
+    return tab("K1.TURN", count, row(packed), room=room)
+
+
+def unpack(reverse, count, packed, room=None):
+    return tab("K1.UNPACK", int(reverse), count, row(packed), room=room)
+
+
+def stored_calls(reverse, count, packed, mm, ml, room=None):
+    return tab("K1.CALLS", int(reverse), count, row(packed), row(mm), row(ml), room=room)
+
+
+def stored_mask(reverse, count, before, after_count, after, mm, ml, room=None):
+    return tab("K1.PMASK", int(reverse), count, row(before), after_count, row(after), row(mm), row(ml), room=room)
+
+
+def stored_drop(reverse, count, packed, places, mm, ml, way="old", room=None):
+    return tab("K1.PDROP", int(reverse), count, row(packed), listed(places), row(mm), row(ml), way, room=room)
+
+
+def stored_cut(reverse, count, before, after_count, after, start, mm, ml, room=None):
+    start = "-" if start is None else start
+    return tab("K1.PCUT", int(reverse), count, row(before), after_count, row(after), start, row(mm), row(ml), room=room)
+
+
+def stored_session(reverse, count, packed, mm, ml, *steps, way="old"):
+    """Each step is a kind and its numbers."""
+    shown = [f"{kind}:{listed(arguments)}" for kind, arguments in steps]
+    return tab("K1.PSES", int(reverse), count, row(packed), row(mm), row(ml), way, *shown)
+
+
 # ---- Answers -----------------------------------------------------------------------------------
 
 
@@ -165,4 +199,10 @@ ROOM_FOR = {
     "DROP": lambda mm, ml: [row_length(mm), row_length(ml)],
     "CUT": lambda mm, ml: [row_length(mm), row_length(ml)],
     "DUP": duplex_room,
+    "K1.TURN": lambda packed: [row_length(packed)],
+    "K1.UNPACK": lambda seq: [row_length(seq)],
+    "K1.CALLS": lambda groups, found: [list_length(found)],
+    "K1.PMASK": lambda mm, ml: [row_length(mm), row_length(ml)],
+    "K1.PDROP": lambda mm, ml: [row_length(mm), row_length(ml)],
+    "K1.PCUT": lambda mm, ml: [row_length(mm), row_length(ml)],
 }

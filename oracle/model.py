@@ -8,7 +8,7 @@ that it tracks, in order, and a spot is bare or called; a skip is a count of bar
 remove spots, dropping makes a call bare, and the text is written from the spots that are left.
 
 The parts, in order: the scope's numbers and bounds; the form of requests; alignment; evidence; building;
-reading; editing; the session's steps; the table of calls.
+reading; editing; the session's steps; reads as a BAM record stores them; the table of calls.
 """
 import re
 import sys
@@ -550,18 +550,22 @@ def refuse_long_tag(mm, ml, *rows_of_bases):
     refuse_longer(MOST_BASES, *rows_of_bases)
 
 
-def ask_calls(mm, ml, seq, room):
-    mm, ml, seq = text(mm), text_or_none(ml), bases(seq)
-    refuse_long_tag(mm, ml, seq)
-    groups = read_tag(mm, ml, seq)
+def show_calls(groups, room, place_of=lambda place: place):
+    """The number of groups, and the calls, with each place as `place_of` counts it."""
     calls = [
-        "%d:%d:%d:%d" % (group_number, place, spot[0], spot[1] - spot[0])
+        "%d:%d:%d:%d" % (group_number, place_of(place), spot[0], spot[1] - spot[0])
         for group_number, group in enumerate(groups, 1)
         for place, spot in zip(group.places, group.row)
         if spot is not BARE
     ]
     room.take(len(calls))
     return [str(len(groups)), show_list(calls)]
+
+
+def ask_calls(mm, ml, seq, room):
+    mm, ml, seq = text(mm), text_or_none(ml), bases(seq)
+    refuse_long_tag(mm, ml, seq)
+    return show_calls(read_tag(mm, ml, seq), room)
 
 
 def ask_tally(mm, ml, seq, room):
@@ -721,6 +725,172 @@ def ask_step(seq, mm, ml, lengths, kind, arguments, room):
     return buffers + [show_numbers(new_lengths)]
 
 
+# ---- Reads as a BAM record stores them: turn, do as above, turn back ---------------------------
+
+LETTERS = b"=ACMGRSVTWYHKDBN"
+COMPLEMENTS = bytes.maketrans(LETTERS, b"=TGKCYSBAWRDMHVN")
+TO_CODE = bytes.maketrans(LETTERS, b"0123456789abcdef")
+TO_LETTER = bytes.maketrans(b"0123456789abcdef", LETTERS)
+
+
+def turned(seq):
+    """The reverse complement."""
+    return seq[::-1].translate(COMPLEMENTS)
+
+
+def bytes_for(count):
+    return (count + 1) // 2
+
+
+def unpacked(count, packed):
+    """The letters of the first `count` bases. A code is a hex digit; a spare half is left out."""
+    return packed.hex()[:count].encode().translate(TO_LETTER)
+
+
+def repacked(seq):
+    """The packed bytes of letters, with a spare half of 0."""
+    codes = seq.translate(TO_CODE).decode()
+    return bytes.fromhex(codes + "0" * (len(codes) % 2))
+
+
+class Stored:
+    """A stored read: its stated number of bases, whether it is reverse, and its bases in read orientation."""
+
+    def __init__(self, reverse, count, packed):
+        self.reverse, self.count = reverse, count
+        self.seq = self.turned_if(unpacked(count, packed))
+
+    def turned_if(self, seq):
+        """From the stored read to read orientation, and back."""
+        return turned(seq) if self.reverse else seq
+
+    def place(self, place):
+        """A place of the stored read in read orientation, and back."""
+        return self.count - 1 - place if self.reverse else place
+
+    def places(self, named):
+        """Places past the end do nothing."""
+        return [self.place(place) for place in named if place < self.count]
+
+    def ends(self, ends):
+        return ends[::-1] if self.reverse else ends
+
+    def start(self, start, window):
+        """The start of a window of so many bases; unknown if it doesn't fit."""
+        if not self.reverse or start is None:
+            return start
+        return self.count - window - start if start + window <= self.count else None
+
+
+def packed_row(field):
+    """A packed SEQ, of which the program takes more bytes than the domain's bases need."""
+    return byte_row(field, BYTES_BUFFER)
+
+
+def old_way(field):
+    if field != "old":
+        raise Malformed
+
+
+def refuse_bad_packed(*pairs):
+    """Refuses with 1 by the stated numbers of bases, and then with 2 if bytes are not as many as the bases take."""
+    refuse_if(any(count > MOST_BASES for count, _ in pairs), TOO_LONG)
+    refuse_if(any(len(packed) != bytes_for(count) for count, packed in pairs), UNEQUAL)
+
+
+def ask_turn(count, packed, room):
+    count, packed = number(count), packed_row(packed)
+    refuse_bad_packed((count, packed))
+    room.take(len(packed))
+    return [show_bytes(repacked(turned(unpacked(count, packed))))]
+
+
+def ask_unpack(reverse, count, packed, room):
+    reverse, count, packed = yes_or_no(reverse), number(count), packed_row(packed)
+    refuse_bad_packed((count, packed))
+    room.take(count)
+    return [show_bytes(Stored(reverse, count, packed).seq)]
+
+
+def ask_stored_calls(reverse, count, packed, mm, ml, room):
+    reverse, count, packed, mm, ml = yes_or_no(reverse), number(count), packed_row(packed), text(mm), text_or_none(ml)
+    refuse_long_tag(mm, ml)
+    refuse_bad_packed((count, packed))
+    read = Stored(reverse, count, packed)
+    return show_calls(read_tag(mm, ml, read.seq), room, read.place)
+
+
+def ask_stored_mask(reverse, count, packed, after_count, after, mm, ml, room):
+    reverse, mm, ml = yes_or_no(reverse), text(mm), text_or_none(ml)
+    count, packed, after_count, after = number(count), packed_row(packed), number(after_count), packed_row(after)
+    refuse_long_tag(mm, ml)
+    refuse_bad_packed((count, packed), (after_count, after))
+    refuse_if(after_count != count, UNEQUAL)
+    before, after = Stored(reverse, count, packed), Stored(reverse, after_count, after)
+    return show_edited(room, *window_tag(mm, ml, before.seq, after.seq, 0))
+
+
+def ask_stored_drop(reverse, count, packed, named, mm, ml, way, room):
+    reverse, count, packed, named = yes_or_no(reverse), number(count), packed_row(packed), places(named)
+    mm, ml = text(mm), text_or_none(ml)
+    old_way(way)
+    refuse_long_tag(mm, ml)
+    refuse_bad_packed((count, packed))
+    read = Stored(reverse, count, packed)
+    return show_edited(room, *dropped_tag(mm, ml, read.seq, read.places(named)))
+
+
+def ask_stored_cut(reverse, count, packed, after_count, after, start, mm, ml, room):
+    reverse, mm, ml = yes_or_no(reverse), text(mm), text_or_none(ml)
+    count, packed, after_count, after = number(count), packed_row(packed), number(after_count), packed_row(after)
+    start = None if start == "-" else number(start)
+    refuse_long_tag(mm, ml)
+    refuse_bad_packed((count, packed), (after_count, after))
+    before, after = Stored(reverse, count, packed), Stored(reverse, after_count, after)
+    refuse_if(after.seq == before.seq, UNCHANGED)
+    first = window_start(before.seq, after.seq, before.start(start, after_count))
+    return show_edited(room, *window_tag(mm, ml, before.seq, after.seq, first))
+
+
+def session_step(field):
+    """The kind of a step, and its places or ends."""
+    kind, arguments = field[:2], places(field[3:])
+    if kind not in STEPS or field[2:3] != ":" or (kind == "CU" and len(arguments) != 2):
+        raise Malformed
+    return kind, arguments
+
+
+def stored_step(reverse, count, packed, mm, ml, kind, arguments):
+    """The number of bases, the packed buffer, the text and ML after a step."""
+    refuse_if(len(packed) < bytes_for(count), UNEQUAL)
+    read = Stored(reverse, count, packed)
+    meant = read.ends(arguments) if kind == "CU" else read.places(arguments)
+    seq, mm, ml = STEPS[kind](read.seq, mm, ml, meant)
+    return len(seq), over(repacked(read.turned_if(seq)), packed), mm, ml
+
+
+def ask_stored_session(*fields):
+    *fields, room = fields
+    if len(fields) < 6:
+        raise Malformed
+    reverse, count, packed, mm, ml, way, *steps = fields
+    reverse, held = yes_or_no(reverse), (number(count), packed_row(packed), text(mm), text_or_none(ml))
+    old_way(way)
+    steps, answers = list(map(session_step, steps)), []
+    count, packed, mm, ml = held
+    refuse_long_tag(mm, ml)
+    refuse_bad_packed((count, packed))
+    read_tag(mm, ml, Stored(reverse, count, packed).seq)
+    for step in steps:
+        try:
+            held = stored_step(reverse, *held, *step)
+            answers.append(0)
+        except Refused as refused:
+            answers.append(refused.number)
+    count, packed, mm, ml = held
+    return [show_numbers(answers), str(count), show_bytes(packed), show_bytes(mm), show_bytes_or_none(ml)]
+
+
 # ---- The calls ---------------------------------------------------------------------------------
 
 # By name: the function, the number of fields (None: the function checks it), how many numbers of room it may be lent.
@@ -743,6 +913,13 @@ CALLS = {
     "DROP": (ask_drop, 4, 2),
     "CUT": (ask_cut, 5, 2),
     "STEP": (ask_step, 6, 0),
+    "K1.TURN": (ask_turn, 2, 1),
+    "K1.UNPACK": (ask_unpack, 3, 1),
+    "K1.CALLS": (ask_stored_calls, 5, 1),
+    "K1.PMASK": (ask_stored_mask, 7, 2),
+    "K1.PDROP": (ask_stored_drop, 7, 2),
+    "K1.PCUT": (ask_stored_cut, 8, 2),
+    "K1.PSES": (ask_stored_session, None, 0),
 }
 AMPLE = Room()
 

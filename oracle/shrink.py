@@ -2,6 +2,8 @@
 
 Fields of the same length, such as `before` and `after` of a mask, also lose the same part together. The code does not
 know what each field holds: a request that has lost its form is answered `?` by every program, and so does not fail.
+Only of stored reads it knows more: a number of bases and the packed bytes behind it get smaller together, and a session
+loses whole steps.
 """
 import re
 
@@ -49,9 +51,41 @@ def smaller_numbers(fields):
                     yield fields[:k] + [",".join(items[:at] + [str(less)] + items[at + 1 :])] + fields[k + 1 :]
 
 
+def stored_reads(fields):
+    """The fields that state a number of bases for the packed bytes in the next field."""
+    for k, (count, packed) in enumerate(zip(fields, fields[1:])):
+        if count.isdigit() and len(items_of(packed)[0]) == (int(count) + 1) // 2 and items_of(packed)[1] == "":
+            yield k
+
+
+def fewer_bases(fields):
+    """The fields with fewer bases at the back of every stored read, or of one of them, or at its front."""
+    reads = list(stored_reads(fields))
+    for chosen, front in [(reads, False), *(([k], front) for k in reads for front in (False, True))]:
+        most = min((int(fields[k]) for k in chosen), default=0)
+        for less in dict.fromkeys((most, most // 2, most // 4, 4, 2, 1)):
+            if 0 < less <= most and not (front and less % 2):
+                left = list(fields)
+                for k in chosen:
+                    count, packed = int(fields[k]) - less, items_of(fields[k + 1])[0]
+                    kept = packed[less // 2 :] if front else packed[: (count + 1) // 2]
+                    left[k : k + 2] = [str(count), written(kept, "")]
+                yield left
+
+
+def smaller_stored(name, fields):
+    """Requests on stored reads with fewer bases, or without a step."""
+    if name.startswith("K1."):
+        yield from fewer_bases(fields)
+    if name == "K1.PSES":
+        yield from (fields[:k] + fields[k + 1 :] for k in range(6, len(fields)))
+
+
 def candidates(line):
     """Smaller requests, those that lose most first."""
     name, *fields = line.split("\t")
+    for fewer in smaller_stored(name, fields):
+        yield "\t".join([name, *fewer])
     if fields and fields[-1].startswith("@"):
         yield "\t".join([name, *fields[:-1]])
     for k in range(len(fields)):

@@ -274,3 +274,78 @@ state("SAMtags: three marks", p.calls(b"C+m?.?;", None, b""), p.done(1, "*"))
 state("SAMtags: a lower-case base", p.calls(b"C+m?,0;", None, b"c"), 7)
 state("same: masked by another letter", p.mask(b"C+m?,0;", None, b"CC", b"GC"), p.edited(b"C+m?;"))
 state("same: one base twice", p.calls(b"C+m?,0;C+m?,0;", None, b"C"), p.done(2, "1:0:0:0,2:0:0:0"))
+
+# ---- Reads as a BAM record stores them -----------------------------------------------------------
+
+
+def packed(text):
+    return bytes.fromhex(text)
+
+
+def session_left(numbers, count, text, mm, ml=None):
+    """The answer of a session on a stored read."""
+    return p.done(p.listed(numbers), count, p.row(packed(text)), p.row(mm), p.row(ml))
+
+
+# A reverse read of five C is stored as five G.
+FIVE = packed("444440")
+FIVE_LISTED = b"C+m?,0,0,0,0,0;"
+
+state("stored: no base turns", p.turn(0, b""), p.done("."))
+state("stored: one base with a dirty spare half turns", p.turn(1, packed("2f")), p.done("40"))
+state("stored: two bases turn", p.turn(2, packed("12")), p.done("48"))
+state("stored: three bases with a dirty spare half turn", p.turn(3, packed("124f")), p.done("2480"))
+state("stored: all sixteen letters turn", p.turn(16, packed("0123456789abcdef")), p.done("f7b3d591e6a2c480"))
+state("stored: turned twice", p.turn(3, packed("2480")), p.done("1240"))
+state("stored: unpacked, forward", p.unpack(0, 16, packed("0123456789abcdef")), p.done(p.row(b"=ACMGRSVTWYHKDBN")))
+state("stored: unpacked, reverse", p.unpack(1, 16, packed("0123456789abcdef")), p.done(p.row(b"NVHMDRWABSYCKGT=")))
+state("stored: a spare half is not unpacked", p.unpack(0, 1, packed("2f")), p.done(p.row(b"C")))
+state("stored: a byte too many", p.turn(1, packed("2000")), 2)
+state("stored: a byte too few", p.turn(3, packed("20")), 2)
+state("stored: many bytes beside few bases", p.turn(3, bytes(8_001)), 2)
+state("stored: 1 before 2", p.turn(16_001, b""), 1)
+state("stored: 1 of the text before 2", p.stored_calls(0, 3, b"", b"C" * 65_537, None), 1)
+state("stored: 2 before the text", p.stored_calls(0, 3, b"", b"", None), 2)
+state("stored: 2 before 12", p.turn(3, packed("20"), room=0), 2)
+state("stored: no room for a turned byte", p.turn(1, packed("2f"), room=0), 12)
+state("stored: no room for a base", p.unpack(1, 3, packed("124f"), room=2), 12)
+state("stored: a spare half counts as no base", p.stored_calls(0, 1, packed("2f"), b"N+m?,1;", None), 7)
+state("stored: a spare half counts as no base, reverse", p.stored_calls(1, 1, packed("2f"), b"N+m?,1;", None), 7)
+state("stored: places of a reverse read, in the tag's order",
+      p.stored_calls(1, 5, FIVE, b"C+m?,0,2;", b"\7\x08"), p.done(1, "1:4:0:1,1:1:1:1"))
+state("stored: places of a forward read", p.stored_calls(0, 5, FIVE, b"G-m?,0,2;", b"\7\x08"), p.done(1, "1:0:0:1,1:3:1:1"))
+state("stored: a drop past the end of a reverse read", p.stored_drop(1, 5, FIVE, [7], FIVE_LISTED, None), p.edited(FIVE_LISTED))
+state("stored: a drop at the length of a reverse read", p.stored_drop(1, 5, FIVE, [5], FIVE_LISTED, None), p.edited(FIVE_LISTED))
+state("stored: a drop at a reverse read's stored front", p.stored_drop(1, 5, FIVE, [0], FIVE_LISTED, None), p.edited(b"C+m?,0,0,0,0;"))
+state("stored: a drop at a reverse read's stored back", p.stored_drop(1, 5, FIVE, [4], FIVE_LISTED, None), p.edited(b"C+m?,1,0,0,0;"))
+state("stored: a mask that is none, spare halves apart", p.stored_mask(1, 1, packed("4a"), 1, packed("4b"), b"C+m?,0;", None), p.edited(b"C+m?,0;"))
+state("stored: a mask of a reverse read", p.stored_mask(1, 3, packed("4440"), 3, packed("f440"), b"C+m?,1,0;", b"\1\2"), p.edited(b"C+m?,1;", b"\1"))
+state("stored: equal bytes, not equal bases", p.stored_mask(0, 1, packed("20"), 2, packed("22"), b"", None), 2)
+state("stored: windows are compared by bases", p.stored_cut(0, 1, packed("2a"), 1, packed("2b"), None, b"", None), 21)
+state("stored: equal bytes of other lengths are no equal windows", p.stored_cut(0, 1, packed("20"), 2, packed("20"), 0, b"", None), 11)
+state("stored: 2 before 21", p.stored_cut(0, 1, packed("2000"), 1, packed("2000"), 0, b"", None), 2)
+state("stored: a window from the stored front", p.stored_cut(1, 3, packed("4410"), 2, packed("44"), 0, b"C+m?,0,0;", b"\1\2"), p.edited(b"C+m?,0,0;", b"\1\2"))
+state("stored: no window from the other end", p.stored_cut(1, 3, packed("4410"), 2, packed("44"), 1, b"C+m?,0,0;", b"\1\2"), 11)
+state("stored: a start that doesn't fit", p.stored_cut(1, 3, packed("4410"), 2, packed("44"), U64, b"C+m?,0,0;", b"\1\2"), 11)
+state("stored: a start that is ignored", p.stored_cut(1, 1, packed("40"), 1, packed("f0"), U64, b"C+m?,0;", b"\1"), p.edited(b"C+m?;", b""))
+state("stored: an unknown start", p.stored_cut(1, 3, packed("4410"), 2, packed("44"), None, b"C+m?;", None), 11)
+state("stored session: a cut moves every half", p.stored_session(0, 4, packed("1248"), b"C+m?,0;", None, ("CU", [1, 0])),
+      session_left([0], 3, "2480", b"C+m?,0;"))
+state("stored session: bytes past the end stay", p.stored_session(0, 4, packed("1248"), b"C+m?,0;", None, ("CU", [3, 0])),
+      session_left([0], 1, "8048", b"C+m?;"))
+state("stored session: a step after a cut", p.stored_session(0, 4, packed("1248"), b"C+m?,0;", b"\7", ("CU", [0, 2]), ("DR", [1]), ("MK", [1])),
+      session_left([0, 0, 0], 2, "1f48", b"C+m?;", b""))
+state("stored session: the spare half is 0 after a drop", p.stored_session(1, 1, packed("4f"), b"C+m?,0;", None, ("DR", [3])),
+      session_left([0], 1, "40", b"C+m?,0;"))
+state("stored session: the spare half is not masked", p.stored_session(0, 1, packed("23"), b"C+m?,0;", None, ("MK", [1])),
+      session_left([0], 1, "20", b"C+m?,0;"))
+state("stored session: a refusal leaves the spare half", p.stored_session(0, 1, packed("2f"), b"C+m,0;", None, ("DR", [0]), ("CU", [0, 0]), ("CU", [1, 1])),
+      session_left([10, 21, 11], 1, "2f", b"C+m,0;"))
+state("stored session: ends of a reverse read", p.stored_session(1, 3, packed("4140"), b"C+m?,0,0;", b"\1\2", ("CU", [1, 0])),
+      session_left([0], 2, "1440", b"C+m?,0;", b"\1"))
+state("stored session: no step", p.stored_session(1, 1, packed("4f"), b"C+m?,0;", None), session_left([], 1, "4f", b"C+m?,0;"))
+state("stored session: a byte too many at the opening", p.stored_session(0, 1, packed("2000"), b"C+m?;", None, ("MK", [0])), 2)
+state("stored session: all of SEQ is cut", p.stored_session(1, 1, packed("4f"), b"C+m?,0;", b"\1", ("CU", [0, 1]), ("MK", [0]), ("CU", [0, 0])),
+      session_left([0, 0, 21], 0, "4f", b"C+m?;", b""))
+# The Rust's drop_modifications_at_raw takes the place 1 for the read's first base, and drops its call.
+state("differs: a place past the end of a reverse read", p.stored_drop(1, 1, packed("40"), [1], b"C+m?,0;", None), p.edited(b"C+m?,0;"))

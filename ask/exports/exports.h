@@ -32,6 +32,23 @@ void expect_text(const char *what, struct row *r, size_t n, const char *wanted);
 /* Entry k of an array of numbers that an accepted call has written. */
 size_t said(struct row *sizes, size_t k);
 
+/* The arguments that a call takes for a tag, with ML and without. */
+#define TAG(t) U8((t).mm), U8((t).ml), some_yes()
+#define NO_ML(t) U8((t).mm), U8((t).in_page), 0
+
+/* The rows that an edited tag goes to, and their lengths; and the arguments that a call takes for them. */
+struct edited {
+    struct row *mm, *ml, *mm_len, *ml_len;
+};
+#define OUT(e) U8((e).mm), U8((e).ml), as_size((e).mm_len), as_size((e).ml_len)
+
+/* Rooms for the tag "C+m?,0;" with one value: exactly enough, one byte short for MM, and none for ML. */
+void edited_rooms(struct edited *enough, struct edited *short_mm, struct edited *short_ml);
+
+/* Checks what an edit left, or a session's step, and that nothing else changed. A step without ML gives NULL for it. */
+void edited_as(const char *call, struct edited e, const char *mm, const char *ml);
+void stepped_as(const char *step, struct row *mm, struct row *ml, struct row *lengths, const char *mm_then, const char *ml_then);
+
 void try_small(void);
 void try_alignment(void);
 void try_evidence(void);
@@ -41,5 +58,8 @@ void try_reading(void);
 void try_rewriting(void);
 void try_session(void);
 void try_transcript(void);
+void try_stored_reading(void);
+void try_stored_rewriting(void);
+void try_stored_session(void);
 
 #endif

@@ -66,6 +66,32 @@ size_t said(struct row *sizes, size_t k)
     return as_size(sizes)[k];
 }
 
+void edited_rooms(struct edited *enough, struct edited *short_mm, struct edited *short_ml)
+{
+    enough->mm = row_of(1, 7);
+    enough->ml = row_of(1, 1);
+    enough->mm_len = row_of(sizeof(size_t), 1);
+    enough->ml_len = row_of(sizeof(size_t), 1);
+    *short_mm = *short_ml = *enough;
+    short_mm->mm = row_of(1, 6);
+    short_ml->ml = row_of(1, 0);
+}
+
+void edited_as(const char *call, struct edited e, const char *mm, const char *ml)
+{
+    expect_text(call, e.mm, said(e.mm_len, 0), mm);
+    expect_text(call, e.ml, said(e.ml_len, 0), ml);
+    expect("bytes changed by an edit", (uint64_t)rows_wrote(), 0);
+}
+
+void stepped_as(const char *step, struct row *mm, struct row *ml, struct row *lengths, const char *mm_then, const char *ml_then)
+{
+    expect_text(step, mm, said(lengths, AQL_SESSION_MM), mm_then);
+    if (ml_then != NULL)
+        expect_text(step, ml, said(lengths, AQL_SESSION_ML), ml_then);
+    expect("bytes changed past what a step left", (uint64_t)rows_wrote(), 0);
+}
+
 struct columns columns_of(size_t n, uint32_t unconverted, uint32_t converted)
 {
     struct columns c;
@@ -84,8 +110,8 @@ static void on_touch(int number)
 
 int main(void)
 {
-    static void (*const tries[])(void) = {try_small,     try_alignment, try_evidence,   try_building, try_reading,
-                                          try_rewriting, try_session,   try_transcript, try_corners};
+    static void (*const tries[])(void) = {try_small,   try_alignment,  try_evidence,       try_building,         try_reading,        try_rewriting,
+                                          try_session, try_transcript, try_stored_reading, try_stored_rewriting, try_stored_session, try_corners};
     uint64_t turn;
     size_t i;
     signal(SIGSEGV, on_touch);

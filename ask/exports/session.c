@@ -18,7 +18,7 @@ static struct session session_of(size_t seq, size_t mm, size_t ml)
 }
 
 #define ROWS(s) U8((s).seq), U8((s).mm), U8((s).ml), some_yes(), as_size((s).lengths)
-#define NO_ML(s, page) U8((s).seq), U8((s).mm), U8(page), 0, as_size((s).lengths)
+#define ROWS_NO_ML(s, page) U8((s).seq), U8((s).mm), U8(page), 0, as_size((s).lengths)
 
 /* Every call of a session refuses these lengths with this number, except a cut of an empty SEQ. */
 static void refuse_lengths(uint8_t number, size_t seq, size_t mm, size_t ml)
@@ -86,7 +86,7 @@ static void try_open(void)
     REFUSES(AQL_LENGTHS_DISAGREE, aql_session_open(U8(none), U8(s.mm), U8(s.ml), some_yes(), as_size(s.lengths), as_size(groups), as_size(calls)));
     REFUSES(AQL_LENGTHS_DISAGREE, aql_session_open(U8(s.seq), U8(none), U8(s.ml), some_yes(), as_size(s.lengths), as_size(groups), as_size(calls)));
     REFUSES(AQL_LENGTHS_DISAGREE, aql_session_open(U8(s.seq), U8(s.mm), U8(none), some_yes(), as_size(s.lengths), as_size(groups), as_size(calls)));
-    ACCEPTS(aql_session_open(NO_ML(bare, page), as_size(groups), as_size(calls)));
+    ACCEPTS(aql_session_open(ROWS_NO_ML(bare, page), as_size(groups), as_size(calls)));
     expect("groups", said(groups, 0), 1);
     expect("calls", said(calls, 0), 2);
     KEPT("aql_session_open without ML");
@@ -100,10 +100,7 @@ static void try_open(void)
 static void left(const char *step, struct session s, const char *seq, const char *mm, const char *ml)
 {
     expect_text(step, s.seq, said(s.lengths, AQL_SESSION_SEQ), seq);
-    expect_text(step, s.mm, said(s.lengths, AQL_SESSION_MM), mm);
-    if (ml != NULL)
-        expect_text(step, s.ml, said(s.lengths, AQL_SESSION_ML), ml);
-    expect("bytes changed past what a step left", (uint64_t)rows_wrote(), 0);
+    stepped_as(step, s.mm, s.ml, s.lengths, mm, ml);
 }
 
 static void try_steps(void)
@@ -140,11 +137,11 @@ static void try_steps_without_ml(void)
     s = session_of(3, 9, SIZE_MAX);
     page = row_in_page(1);
     places = row_u32(1, 2);
-    ACCEPTS(aql_session_drop_calls(NO_ML(s, page), U32(places)));
+    ACCEPTS(aql_session_drop_calls(ROWS_NO_ML(s, page), U32(places)));
     left("a drop without ML", s, "CAC", "C+m?,0;", NULL);
-    ACCEPTS(aql_session_mask(NO_ML(s, page), U32(places)));
+    ACCEPTS(aql_session_mask(ROWS_NO_ML(s, page), U32(places)));
     left("a mask without ML", s, "CAN", "C+m?,0;", NULL);
-    ACCEPTS(aql_session_cut(NO_ML(s, page), 0, 2));
+    ACCEPTS(aql_session_cut(ROWS_NO_ML(s, page), 0, 2));
     left("a cut without ML", s, "C", "C+m?,0;", NULL);
     expect("ML's length without ML", said(s.lengths, AQL_SESSION_ML), SIZE_MAX);
 }

@@ -88,22 +88,6 @@ void try_reading(void)
 
 /* ---- Rewriting */
 
-/* The rows of an edited tag, and their lengths. */
-struct edited {
-    struct row *mm, *ml, *mm_len, *ml_len;
-};
-
-#define TAG(t) U8((t).mm), U8((t).ml), some_yes()
-#define NO_ML(t) U8((t).mm), U8((t).in_page), 0
-#define OUT(e) U8((e).mm), U8((e).ml), as_size((e).mm_len), as_size((e).ml_len)
-
-static void edited_as(const char *call, struct edited e, const char *mm, const char *ml)
-{
-    expect_text(call, e.mm, said(e.mm_len, 0), mm);
-    expect_text(call, e.ml, said(e.ml_len, 0), ml);
-    expect("bytes changed by an edit", (uint64_t)rows_wrote(), 0);
-}
-
 static void try_mask(struct tag t, struct edited e, struct edited short_mm, struct edited short_ml)
 {
     struct row *after = row_text("CAN");
@@ -153,9 +137,8 @@ static void try_cut(struct tag t, struct edited e, struct edited short_mm, struc
 void try_rewriting(void)
 {
     struct tag t = tag();
-    struct row *mm_len = row_of(sizeof(size_t), 1), *ml_len = row_of(sizeof(size_t), 1);
-    struct row *mm = row_of(1, 7), *ml = row_of(1, 1), *six = row_of(1, 6), *none = row_of(1, 0);
-    struct edited e = {mm, ml, mm_len, ml_len}, short_mm = {six, ml, mm_len, ml_len}, short_ml = {mm, none, mm_len, ml_len};
+    struct edited e, short_mm, short_ml;
+    edited_rooms(&e, &short_mm, &short_ml);
     try_mask(t, e, short_mm, short_ml);
     try_drop(t, e, short_mm, short_ml);
     try_cut(t, e, short_mm, short_ml);

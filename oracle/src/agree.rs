@@ -2,16 +2,22 @@
 //!
 //! The differences that the scope names have names here. What the request itself shows is checked first, in
 //! the scope's order: its form, 13, 1, 2, a session's 11, 3 and 4. All else is taken from the Rust's answer.
+//!
+//! A request on a stored read is judged, after its form, 1 and 2, as the plain request in read orientation (stored.rs).
+//! A session on a stored read is judged whole, with the numbers of its steps.
 
 use crate::calls::{Effort, are_calls};
 use crate::form::{Call, Kind, Request, joined_length, list_length, row_length};
 use crate::protocol::{bytes, list, number, signed, small};
+use crate::stored::{self, OwnDrop};
 
 const FORM: &str = "? the line is no request, or passes the program's buffers";
 const LONG: &str = "1 longer than the domain allows";
 const COLUMNS: &str = "2 columns that disagree can't be put to the Rust";
 const ALIGNED: &str = "2 aligned bytes of another total, which the Rust takes";
 const BUFFERS: &str = "2 a session's length over its buffer can't be put to the Rust";
+const PACKED: &str = "2 packed bytes that are not as many as the bases take can't be put to the Rust";
+const PAST_END: &str = "a place past the end of a reverse read, which the Rust takes for its first base";
 const HIGH_ACCEPTED: &str = "3 a byte above 127 in MM, which the Rust accepts";
 const HIGH_REFUSED: &str = "3 a byte above 127 in MM, where the Rust gives None too";
 const NOT_UTF8: &str = "MM is not UTF-8 and can't be put to the Rust";
@@ -63,6 +69,7 @@ pub fn verdict(line: &str, rust: &str, answer: &str, effort: Effort) -> Verdict 
     let asked = Asked { request: &asked, call };
     asked
         .shown_by_request(rust, answer)
+        .or_else(|| asked.shown_in_read_orientation(rust, answer, effort))
         .or_else(|| asked.shown_by_text(rust, answer))
         .unwrap_or_else(|| asked.shown_by_rust(rust, answer, effort))
 }
@@ -134,7 +141,9 @@ impl<'a> Asked<'a> {
             }
             _ => {
                 let mut texts = self.of_kinds(&[Kind::Text, Kind::Values, Kind::GivenValues]);
-                self.rows_in_parallel().any(|length| length > MOST_BASES)
+                let mut counts = self.of_kinds(&[Kind::BaseCount]);
+                counts.any(|count| number(count).is_none_or(|n| n > MOST_BASES as u64))
+                    || self.rows_in_parallel().any(|length| length > MOST_BASES)
                     || self.of_kinds(&[Kind::Window]).any(|after| row_length(after) > MOST_BASES)
                     || texts.any(|text| row_length(text) > MOST_BYTES)
             }
@@ -149,6 +158,8 @@ impl<'a> Asked<'a> {
                 let held = |place| row_length(self.field(place));
                 seq > held(0) || mm > held(1) || (self.field(2) != "-" && ml > held(2))
             }
+            "K1.PMASK" => self.bytes_disagree() || number(self.field(1)) != number(self.field(3)),
+            name if name.starts_with("K1.") => self.bytes_disagree(),
             _ => {
                 let mut lengths = self.rows_in_parallel();
                 let first = lengths.next();
@@ -157,11 +168,18 @@ impl<'a> Asked<'a> {
         }
     }
 
+    /// Whether a packed SEQ has more or fewer bytes than its stated number of bases takes.
+    fn bytes_disagree(&self) -> bool {
+        let mut pairs = self.of_kinds(&[Kind::BaseCount]).zip(self.of_kinds(&[Kind::Packed]));
+        pairs.any(|(count, packed)| number(count).map(|n| n.div_ceil(2)) != Some(row_length(packed) as u64))
+    }
+
     /// For 2 the Rust gives None in a mask, an answer in ANN, or a panic at an assert, or it can't take the request.
     fn unequal(&self, rust: &str) -> Verdict {
         match self.call.name {
-            "MASK" if rust == "?" => named_if(!self.is_utf8(), NOT_UTF8),
-            "MASK" => equal_if(rust.starts_with("None")),
+            name if name.starts_with("K1.") && self.bytes_disagree() => named_if(rust == "?", PACKED),
+            "MASK" | "K1.PMASK" if rust == "?" => named_if(!self.is_utf8(), NOT_UTF8),
+            "MASK" | "K1.PMASK" => equal_if(rust.starts_with("None")),
             "ANN" => named_if(rust.starts_with("0\t"), ALIGNED),
             "STEP" => named_if(rust == "?", BUFFERS),
             _ if rust == "?" => Verdict::Named(COLUMNS),
@@ -181,6 +199,24 @@ impl<'a> Asked<'a> {
         }
         let ends = list(self.field(5), number).unwrap_or_default();
         ends.iter().map(|&end| u128::from(end)).sum::<u128>() > self.lengths()[0] as u128
+    }
+
+    // ---- What the plain request in read orientation shows -------------------------------------
+
+    /// The verdict on a stored read's request by that on the plain one. The Rust's own drop on a stored record must leave
+    /// the same tag, except for the difference that has a name.
+    fn shown_in_read_orientation(&self, rust: &str, answer: &str, effort: Effort) -> Option<Verdict> {
+        let plain = stored::plain(self.request)?;
+        let [rust, plain_answer] = [rust, answer].map(|line| stored::mirrored(self.request, line));
+        let found = verdict(&plain, &rust, &plain_answer, effort);
+        if found != Verdict::Equal {
+            return Some(found);
+        }
+        Some(match stored::own_drop(self.request, answer) {
+            OwnDrop::Same => found,
+            OwnDrop::PastEnd => Verdict::Named(PAST_END),
+            OwnDrop::Other => Verdict::Disagreement,
+        })
     }
 
     // ---- What the text shows: 3 and 4 ---------------------------------------------------------
@@ -277,6 +313,11 @@ fn zero_bases_as_missing(rust: &str) -> String {
     format!("0\t{}", shown.join(","))
 }
 
+/// How many commas a text has.
+fn entries(mm: &str) -> usize {
+    mm.as_bytes().chunks(2).filter(|pair| pair == b"2c").count()
+}
+
 /// The least room for the Rust's answer 0, in the order in which a request lends it. Without ML the room for
 /// ML is 0.
 #[must_use]
@@ -284,9 +325,12 @@ pub fn needed(request: &Request, rust: &str) -> [usize; 2] {
     let fields: Vec<&str> = rust.split('\t').skip(1).collect();
     match (request.name, &fields[..]) {
         // Each entry of an accepted text is a call.
-        ("CALLS", _) => [request.fields[0].as_bytes().chunks(2).filter(|pair| pair == b"2c").count(), 0],
+        ("CALLS", _) => [entries(request.fields[0]), 0],
+        ("K1.CALLS", _) => [entries(request.fields[3]), 0],
         ("Q" | "FETCH" | "CNT", [first, ..]) => [list_length(first), 0],
-        ("BUILD" | "MASK" | "DROP" | "CUT", [mm, ml]) => [row_length(mm), row_length(ml)],
+        ("BUILD" | "MASK" | "DROP" | "CUT" | "K1.PMASK" | "K1.PDROP" | "K1.PCUT", [mm, ml]) => {
+            [row_length(mm), row_length(ml)]
+        }
         ("DUP", [_, mm, ml, _, _, strands @ ..]) => {
             let texts = strands.iter().step_by(3).chain([mm]);
             [texts.map(|text| row_length(text)).max().unwrap_or(0), row_length(ml)]

@@ -16,6 +16,7 @@ use crate::protocol::{
     Reply, absent_or, byte, bytes, list, number, show_absent_or, show_bytes, show_list, signed, size, small,
     yes_or_no,
 };
+use crate::stored;
 use crate::vanilla_caller::SourceRead;
 use fgumi_raw_bam::{RawTagsEditor, SamTag, aux_data_slice, find_array_tag, find_string_tag, new_record};
 use noodles::sam::alignment::record::cigar::op::Kind;
@@ -62,11 +63,16 @@ pub fn answer(line: &str, effort: Effort) -> Option<Reply> {
         "DROP" => drop_places(fields, effort),
         "CUT" => cut(fields, effort),
         "STEP" => step(fields, effort),
+        "K1.TURN" => stored::turn(fields),
+        "K1.UNPACK" => stored::unpack(fields),
+        "K1.CALLS" | "K1.PMASK" | "K1.PDROP" => stored::in_read_orientation(&request, effort),
+        "K1.PCUT" => stored::cut(fields, effort),
+        "K1.PSES" => stored::session(fields, effort),
         _ => None,
     }
 }
 
-fn done<const N: usize>(fields: [String; N]) -> Option<Reply> {
+pub fn done<const N: usize>(fields: [String; N]) -> Option<Reply> {
     Some(Reply::Done(fields.to_vec()))
 }
 
@@ -306,19 +312,19 @@ fn duplex(fields: &[&str]) -> Option<Reply> {
 // ---- Reading ---------------------------------------------------------------------------------
 
 /// MM and ML of a request; None if MM isn't UTF-8.
-fn tag_fields(mm: &str, ml: &str) -> Option<(String, Option<Vec<u8>>)> {
+pub fn tag_fields(mm: &str, ml: &str) -> Option<(String, Option<Vec<u8>>)> {
     Some((String::from_utf8(bytes(mm)?).ok()?, absent_or(ml, bytes)?))
 }
 
 /// The Rust's None for a tag, with its number if runs on the tag's beginnings show it.
-fn refused(mm: &str, ml: Option<&[u8]>, seq: &[u8], dropped: &[usize], effort: Effort) -> Option<Reply> {
+pub fn refused(mm: &str, ml: Option<&[u8]>, seq: &[u8], dropped: &[usize], effort: Effort) -> Option<Reply> {
     if mm.len() > effort.longest_numbered {
         return Some(Reply::Refused);
     }
     Some(exits::number(mm, ml, seq, dropped).map_or(Reply::Refused, Reply::RefusedWith))
 }
 
-fn accepted(mm: &str, ml: Option<&[u8]>, seq: &[u8]) -> bool {
+pub fn accepted(mm: &str, ml: Option<&[u8]>, seq: &[u8]) -> bool {
     drop_modifications_at(mm, ml, seq, &[]).is_some()
 }
 
@@ -465,25 +471,32 @@ fn drop_places(fields: &[&str], effort: Effort) -> Option<Reply> {
 }
 
 /// What a cut made of the tag.
-enum Trimmed {
+pub enum Trimmed {
     Edited(Vec<u8>, Option<Vec<u8>>),
     Refused,
     NoWindow,
     Same,
 }
 
-/// Passes a cut to `trim_clipped_modifications_raw`. An `am` beside MM tells its outcomes apart: every edit
-/// respells or drops the `00` of `am`, and `am` is removed only if all tags are removed.
-fn trim(mm: &[u8], ml: Option<&[u8]>, before: &[u8], after: &[u8], start: Option<usize>) -> Trimmed {
+/// Passes a cut to `trim_clipped_modifications_raw`, of bases as they are stored. An `am` beside MM tells its
+/// outcomes apart: every edit respells or drops the `00` of `am`, and `am` is removed only if all tags are removed.
+pub fn trim(
+    mm: &[u8],
+    ml: Option<&[u8]>,
+    before: &[u8],
+    after: &[u8],
+    reverse: bool,
+    start: Option<usize>,
+) -> Trimmed {
     const WITNESS: &[u8] = b"N+a?,00;";
-    let mut record = new_record(after, false);
+    let mut record = new_record(after, reverse);
     let mut editor = RawTagsEditor::from_vec(&mut record);
     editor.update_string(SamTag::MM, mm);
     if let Some(ml) = ml {
         editor.update_array_u8(SamTag::ML, ml);
     }
     editor.update_string(SamTag::AM_BASES, WITNESS);
-    trim_clipped_modifications_raw(&mut record, before, false, start);
+    trim_clipped_modifications_raw(&mut record, before, reverse, start);
     let aux = aux_data_slice(&record);
     match (find_string_tag(aux, SamTag::AM_BASES), find_string_tag(aux, SamTag::MM)) {
         (None, _) => Trimmed::NoWindow,
@@ -497,7 +510,7 @@ fn trim(mm: &[u8], ml: Option<&[u8]>, before: &[u8], after: &[u8], start: Option
 }
 
 /// The Rust's None for a tag of a record, which need not be text.
-fn refused_bytes(mm: &[u8], ml: Option<&[u8]>, seq: &[u8], effort: Effort) -> Option<Reply> {
+pub fn refused_bytes(mm: &[u8], ml: Option<&[u8]>, seq: &[u8], effort: Effort) -> Option<Reply> {
     match std::str::from_utf8(mm) {
         Ok(mm) => refused(mm, ml, seq, &[], effort),
         Err(_) => Some(Reply::Refused),
@@ -508,7 +521,7 @@ fn cut(fields: &[&str], effort: Effort) -> Option<Reply> {
     let &[mm, ml, before, after, start] = fields else { return None };
     let (mm, ml) = (bytes(mm)?, absent_or(ml, bytes)?);
     let (before, start) = (bytes(before)?, absent_or(start, size)?);
-    match trim(&mm, ml.as_deref(), &before, &bytes(after)?, start) {
+    match trim(&mm, ml.as_deref(), &before, &bytes(after)?, false, start) {
         Trimmed::Edited(mm, ml) => done([show_bytes(&mm), show_absent_or(ml.as_ref(), |ml| show_bytes(ml))]),
         Trimmed::Refused => refused_bytes(&mm, ml.as_deref(), &before, effort),
         Trimmed::NoWindow => Some(Reply::NoWindow),
@@ -596,7 +609,7 @@ fn cut_step(buffers: Buffers, front: usize, back: usize, effort: Effort) -> Opti
     // A cut of more than SEQ leaves no SEQ that could be passed to the Rust.
     let end = buffers.seq().len().checked_sub(back)?;
     let after = buffers.seq().get(front..end)?.to_vec();
-    match trim(buffers.mm(), buffers.ml(), buffers.seq(), &after, Some(front)) {
+    match trim(buffers.mm(), buffers.ml(), buffers.seq(), &after, false, Some(front)) {
         Trimmed::Edited(mm, ml) => buffers.write(&after, &mm, &ml.unwrap_or_default()),
         Trimmed::Refused => refused_bytes(buffers.mm(), buffers.ml(), buffers.seq(), effort),
         Trimmed::NoWindow => Some(Reply::NoWindow),

@@ -10,6 +10,7 @@ use crate::calls::QUICK;
 use crate::corpus::Corpus;
 use crate::form::{Kind, Request};
 use crate::random::Random;
+use crate::stored::{LETTERS, Stored, repacked};
 use crate::tag::{Entry, Group, groups, joined};
 use crate::value::{Value, Values};
 
@@ -59,6 +60,29 @@ fn leave_out_spare_bytes(request: &mut Values) {
                 bytes.truncate(usize::try_from(*length).unwrap_or(usize::MAX));
             }
         }
+    }
+}
+
+/// The stored read whose packed bytes are the field at `packed`: of the stated number of bases if the bytes take so
+/// many, and else of as many as they hold.
+fn stored_at(request: &Values, packed: usize) -> Option<Stored> {
+    let (Value::Bytes(bytes), Value::Word(reverse)) = (&request.fields.get(packed)?.1, &request.fields[0].1)
+    else {
+        return None;
+    };
+    let stated = match &request.fields[packed - 1].1 {
+        Value::Numbers(count) => count.first().copied().flatten().and_then(|n| usize::try_from(n).ok()),
+        _ => None,
+    };
+    let count = stated.filter(|&n| n < usize::MAX && n.div_ceil(2) == bytes.len()).unwrap_or(2 * bytes.len());
+    Stored::of(reverse == "1", count, bytes)
+}
+
+/// The bases that a request's tag is read on.
+fn seq_of(request: &Values) -> Option<Vec<u8>> {
+    match request.place_of(Kind::Bases) {
+        Some(seq) => Some(request.fields[seq].1.bytes().to_vec()),
+        None => stored_at(request, request.place_of(Kind::Packed)?).map(|read| read.in_read()),
     }
 }
 
@@ -115,6 +139,10 @@ impl<'a> Damage<'a> {
             Kind::Values | Kind::GivenValues => self.random.byte(),
             Kind::Informative | Kind::Aligned if !rare => self.random.pick(b"\0\x01\x01"),
             _ if rare => self.random.byte(),
+            Kind::Packed if self.random.one_in(4) => self.random.byte(),
+            Kind::Packed => {
+                self.random.pick(b"\x11\x12\x14\x18\x21\x22\x24\x28\x41\x42\x44\x48\x82\x84\x88\xff")
+            }
             Kind::Reference | Kind::ReferenceRow => self.random.pick(b"CGCGACGTNcgacgt\0"),
             _ => self.random.pick(b"ACCGGTNCGACGTNcgtan"),
         }
@@ -195,11 +223,15 @@ impl<'a> Damage<'a> {
     }
 
     fn other_word(&mut self, kind: Kind) -> String {
+        if kind == Kind::SessionStep {
+            return self.session_step();
+        }
         let choices: &[&str] = match kind {
             Kind::YesNo => &["0", "1"],
             Kind::Pattern => &["C", "G"],
             Kind::Mode => &["E", "T", "E", "T", "D"],
             Kind::Step => &["MK", "DR", "CU"],
+            Kind::Way => &["old"],
             _ => &["-", "."],
         };
         self.random.pick(choices).to_string()
@@ -214,7 +246,7 @@ impl<'a> Damage<'a> {
 
     fn change_numbers(&mut self, kind: Kind, numbers: &mut Vec<Option<i128>>) {
         let one = matches!(kind, Kind::Place | Kind::Start | Kind::CutStart | Kind::Length | Kind::Flags);
-        let fixed = one || kind == Kind::Lengths;
+        let fixed = one || matches!(kind, Kind::Lengths | Kind::BaseCount);
         let way = if fixed { Change::Set } else { self.random.pick(&CHANGES) };
         let place = self.random.below(numbers.len() + usize::from(!fixed));
         change(numbers, way, place, self.item(kind));
@@ -277,9 +309,10 @@ impl<'a> Damage<'a> {
         if request.call.name == "ANN" {
             return self.stretch_reads(request, length);
         }
-        let held = request.place_of(Kind::Bases).map_or(0, |seq| request.fields[seq].1.len());
+        let held = seq_of(request).map_or(0, |seq| seq.len());
         for (kind, value) in &mut request.fields {
             match value {
+                Value::Bytes(packed) if *kind == Kind::Packed => cycle_to(packed, length.div_ceil(2)),
                 Value::Bytes(row) if !matches!(kind, Kind::Text | Kind::Values | Kind::GivenValues) => {
                     cycle_to(row, length);
                 }
@@ -333,13 +366,12 @@ impl<'a> Damage<'a> {
         request: &mut Values,
         edit: impl FnOnce(&mut Self, &mut Vec<Group>, &[u8]),
     ) -> bool {
-        let at = [Kind::Text, Kind::Bases].map(|kind| request.place_of(kind));
-        let [Some(text), Some(seq)] = at else { return false };
+        let (Some(text), Some(seq)) = (request.place_of(Kind::Text), seq_of(request)) else { return false };
         let ml = text + 1;
         let given = matches!(request.fields[ml].1, Value::Bytes(_));
         let values = given.then(|| request.fields[ml].1.bytes());
         let Some(mut found) = groups(request.fields[text].1.bytes(), values) else { return false };
-        edit(self, &mut found, request.fields[seq].1.bytes());
+        edit(self, &mut found, &seq);
         if given {
             found.iter_mut().for_each(Group::fit_values);
         }
@@ -462,9 +494,89 @@ impl<'a> Damage<'a> {
                 request.fields[3].1 = Value::Numbers(places);
             }
             "STEP" => self.settle_step(request),
+            name if name.starts_with("K1.") => self.settle_stored(request),
             _ => {}
         }
     }
+
+    // ---- Stored reads --------------------------------------------------------------------------
+
+    /// Mostly states as many bases as the packed bytes hold, and makes the edit fit them.
+    fn settle_stored(&mut self, request: &mut Values) {
+        for packed in 1..request.fields.len() {
+            if request.fields[packed].0 == Kind::Packed {
+                let held = 2 * request.fields[packed].1.len();
+                let count = stored_at(request, packed).map_or(held, |read| read.letters.len());
+                let other = held.saturating_sub(usize::from(count == held));
+                request.fields[packed - 1].1 =
+                    Value::number(if self.random.one_in(8) { other } else { count });
+            }
+        }
+        let Some(letters) = stored_at(request, 2).map(|read| read.letters) else { return };
+        match request.call.name {
+            "K1.PMASK" => {
+                let after = self.masked_letters(&letters);
+                self.put_stored(request, 4, &after);
+            }
+            "K1.PDROP" if self.random.one_in(2) => {
+                request.fields[3].1 = Value::Numbers(self.places(letters.len()));
+            }
+            "K1.PCUT" => self.settle_stored_cut(request, &letters),
+            _ => {}
+        }
+    }
+
+    /// Some letters masked by N, and now and then replaced by another letter.
+    fn masked_letters(&mut self, letters: &[u8]) -> Vec<u8> {
+        let sparse = self.random.pick(&[2, 5, 9, 30, 400]);
+        let mut after = letters.to_vec();
+        for letter in &mut after {
+            if self.random.one_in(sparse) {
+                *letter = if self.random.one_in(25) { self.random.pick(LETTERS) } else { b'N' };
+            }
+        }
+        after
+    }
+
+    fn settle_stored_cut(&mut self, request: &mut Values, letters: &[u8]) {
+        let front = if self.random.one_in(3) { 0 } else { self.random.below(letters.len() + 1) };
+        let left = letters.len() - front;
+        let kept = if self.random.one_in(3) { left } else { self.random.below(left + 1) };
+        let mut after = letters[front..front + kept].to_vec();
+        if let (true, Some(letter)) = (self.random.one_in(2), after.last_mut()) {
+            *letter = b'N';
+        }
+        let start = match self.random.below(25) {
+            0 => None,
+            1 => self.number(Kind::CutStart),
+            2 => Some(front as i128 + 1),
+            _ => Some(front as i128),
+        };
+        self.put_stored(request, 4, &after);
+        request.fields[5].1 = Value::Numbers(vec![start]);
+    }
+
+    /// Writes letters to a packed field, with any spare half, and their number before it.
+    fn put_stored(&mut self, request: &mut Values, packed: usize, letters: &[u8]) {
+        let mut bytes = repacked(letters);
+        if let (Some(last), false) = (bytes.last_mut(), letters.len().is_multiple_of(2)) {
+            *last |= self.random.byte() & 15;
+        }
+        request.fields[packed].1 = Value::Bytes(bytes);
+        request.fields[packed - 1].1 = Value::number(letters.len());
+    }
+
+    fn session_step(&mut self) -> String {
+        let given = match self.random.below(3) {
+            0 => return format!("CU:{},{}", self.random.below(9), self.random.below(9)),
+            1 => ("MK", self.places(60)),
+            _ => ("DR", self.places(60)),
+        };
+        let shown: Vec<String> = given.1.into_iter().flatten().map(|place| place.to_string()).collect();
+        format!("{}:{}", given.0, if shown.is_empty() { "*".to_string() } else { shown.join(",") })
+    }
+
+    // ---- Plain edits ---------------------------------------------------------------------------
 
     /// The row with some of its bases masked.
     fn masked(&mut self, row: &[u8]) -> Vec<u8> {

@@ -2,8 +2,9 @@
 
 use crate::protocol::{absent_or, byte, is_bytes, list, number, signed, small, yes_or_no};
 use Kind::{
-    Aligned, Bases, Counts, CutStart, Flags, GivenValues, Informative, Length, Lengths, Mode, Pattern, Place,
-    Places, Reads, Reference, ReferenceRow, SignedPlaces, Start, Step, Text, Values, Window, Words, YesNo,
+    Aligned, BaseCount, Bases, Counts, CutStart, Flags, GivenValues, Informative, Length, Lengths, Mode,
+    Packed, Pattern, Place, Places, Reads, Reference, ReferenceRow, SessionStep, SignedPlaces, Start, Step,
+    Text, Values, Way, Window, Words, YesNo,
 };
 
 /// What a field holds. `Bases`, `Informative` and `Counts` of one request are parallel rows.
@@ -41,6 +42,13 @@ pub enum Kind {
     Pattern,
     Mode,
     Step,
+    /// The stated number of bases of the packed SEQ that follows.
+    BaseCount,
+    Packed,
+    /// The way of a drop.
+    Way,
+    /// A step with its numbers, such as `MK:0,1`.
+    SessionStep,
 }
 
 /// A call, the kinds of its fields, and how many numbers of room it may be lent.
@@ -48,18 +56,18 @@ pub struct Call {
     pub name: &'static str,
     fields: &'static [Kind],
     pub room: usize,
-    /// Fields that may come up to three times after the others.
-    strand: &'static [Kind],
+    /// Fields that may come again and again after the others.
+    again: &'static [Kind],
+    most_times: usize,
 }
 
 const fn call(name: &'static str, fields: &'static [Kind], room: usize) -> Call {
-    Call { name, fields, room, strand: &[] }
+    Call { name, fields, room, again: &[], most_times: 0 }
 }
 
 const STRAND: &[Kind] = &[Pattern, Informative, Counts, Counts];
-const MOST_STRANDS: usize = 3;
 
-pub const CALLS: [Call; 18] = [
+pub const CALLS: [Call; 25] = [
     call("Q", &[Words, Start, YesNo], 1),
     call("CPG", &[Reference, Place, YesNo], 0),
     call("PAT", &[Flags], 0),
@@ -71,13 +79,26 @@ pub const CALLS: [Call; 18] = [
     call("REST", &[Pattern, Bases, Informative], 0),
     call("BUILD", &[Pattern, Mode, Bases, Informative, Counts, Counts], 2),
     call("BUILDMM", &[Pattern, Mode, Bases, Informative, Counts, Counts], 1),
-    Call { name: "DUP", fields: &[Mode, Bases], room: 2, strand: STRAND },
+    Call { name: "DUP", fields: &[Mode, Bases], room: 2, again: STRAND, most_times: 3 },
     call("CALLS", &[Text, Values, Bases], 1),
     call("TALLY", &[Text, GivenValues, Bases], 0),
     call("MASK", &[Text, Values, Bases, Bases], 2),
     call("DROP", &[Text, Values, Bases, Places], 2),
     call("CUT", &[Text, Values, Bases, Window, CutStart], 2),
     call("STEP", &[Bases, Text, Values, Lengths, Step, Places], 0),
+    call("K1.TURN", &[BaseCount, Packed], 1),
+    call("K1.UNPACK", &[YesNo, BaseCount, Packed], 1),
+    call("K1.CALLS", &[YesNo, BaseCount, Packed, Text, Values], 1),
+    call("K1.PMASK", &[YesNo, BaseCount, Packed, BaseCount, Packed, Text, Values], 2),
+    call("K1.PDROP", &[YesNo, BaseCount, Packed, Places, Text, Values, Way], 2),
+    call("K1.PCUT", &[YesNo, BaseCount, Packed, BaseCount, Packed, CutStart, Text, Values], 2),
+    Call {
+        name: "K1.PSES",
+        fields: &[YesNo, BaseCount, Packed, Text, Values, Way],
+        room: 0,
+        again: &[SessionStep],
+        most_times: usize::MAX,
+    },
 ];
 
 impl Call {
@@ -89,16 +110,16 @@ impl Call {
 
     /// The kinds of the fields, as many as a request may have.
     pub fn kinds(&self) -> impl Iterator<Item = Kind> {
-        self.fields.iter().chain(self.strand.iter().cycle()).copied()
+        self.fields.iter().chain(self.again.iter().cycle()).copied()
     }
 
     fn takes(&self, count: usize) -> bool {
-        let strands = count.checked_sub(self.fields.len());
-        strands.is_some_and(|over| {
+        let over = count.checked_sub(self.fields.len());
+        over.is_some_and(|over| {
             over == 0
-                || !self.strand.is_empty()
-                    && over.is_multiple_of(self.strand.len())
-                    && over / self.strand.len() <= MOST_STRANDS
+                || !self.again.is_empty()
+                    && over.is_multiple_of(self.again.len())
+                    && over / self.again.len() <= self.most_times
         })
     }
 }
@@ -145,7 +166,7 @@ pub fn joined_length(field: &str) -> usize {
 
 fn holds(kind: Kind, field: &str) -> bool {
     match kind {
-        Text | GivenValues | Reference => is_row(field, BYTES),
+        Text | GivenValues | Reference | Packed => is_row(field, BYTES),
         Values => field == "-" || is_row(field, BYTES),
         Bases | Window | Informative => is_row(field, BASES),
         Counts => is_list(field, BASES, small),
@@ -156,7 +177,7 @@ fn holds(kind: Kind, field: &str) -> bool {
         Reads => are_rows(field, READS),
         Aligned => are_rows(field, BYTES),
         Lengths => list_length(field) == 3 && list(field, number).is_some_and(|found| found.len() == 3),
-        Place | Length => number(field).is_some(),
+        Place | Length | BaseCount => number(field).is_some(),
         CutStart => absent_or(field, number).is_some(),
         Start => signed(field).is_some(),
         Flags => number(field).is_some_and(|flags| flags <= 65_535),
@@ -164,7 +185,17 @@ fn holds(kind: Kind, field: &str) -> bool {
         Pattern => matches!(field, "C" | "G"),
         Mode => matches!(field, "E" | "T" | "D"),
         Step => matches!(field, "MK" | "DR" | "CU"),
+        Way => field == "old",
+        SessionStep => session_step(field).is_some_and(|(_, given)| given.len() <= BYTES),
     }
+}
+
+/// The kind and the numbers of a session's step; None if it is not of its form.
+#[must_use]
+pub fn session_step(field: &str) -> Option<(&str, Vec<u64>)> {
+    let (kind, given) = field.split_once(':')?;
+    let given = list(given, number)?;
+    (matches!(kind, "MK" | "DR") || kind == "CU" && given.len() == 2).then_some((kind, given))
 }
 
 // ---- Requests --------------------------------------------------------------------------------

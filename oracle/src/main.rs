@@ -25,6 +25,7 @@ mod load;
 mod protocol;
 mod random;
 mod stand_ins;
+mod stored;
 mod tag;
 mod value;
 

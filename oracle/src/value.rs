@@ -20,7 +20,7 @@ impl Value {
     fn of(kind: Kind, field: &str) -> Self {
         let word = || Self::Word(field.to_string());
         match kind {
-            Kind::YesNo | Kind::Pattern | Kind::Mode | Kind::Step => word(),
+            Kind::YesNo | Kind::Pattern | Kind::Mode | Kind::Step | Kind::Way | Kind::SessionStep => word(),
             Kind::ReferenceRow => {
                 let found = list(field, |base| Some(bytes(base).map_or(0, |one| one[0])));
                 Self::Bytes(found.unwrap_or_default())
@@ -29,7 +29,9 @@ impl Value {
             Kind::Counts | Kind::Words | Kind::Places | Kind::SignedPlaces | Kind::Place => {
                 Self::numbers(field)
             }
-            Kind::Start | Kind::CutStart | Kind::Length | Kind::Lengths | Kind::Flags => Self::numbers(field),
+            Kind::Start | Kind::CutStart | Kind::Length | Kind::Lengths | Kind::Flags | Kind::BaseCount => {
+                Self::numbers(field)
+            }
             _ => bytes(field).map_or_else(word, Self::Bytes),
         }
     }

@@ -23,7 +23,7 @@ reading-says-inj (reading.Done g n) (reading.Refused r) e = let z : _≡_ {A = �
 reading-says-inj (reading.Refused q) (reading.Done h m) e = let z : _≡_ {A = ℕ} 0 1 = cc in absurd (omega arith)
 reading-says-inj (reading.Refused q) (reading.Refused r) e = let p : q ≡ r = cc in ap reading.Refused p
 
-tally-says-inj : (a b : Tallied) → tallySays a ≡ tallySays b → a ≡ b
+pub tally-says-inj : (a b : Tallied) → tallySays a ≡ tallySays b → a ≡ b
 tally-says-inj (tallied.Done g n) (tallied.Done h m) e =
     let p : _≡_ {A = Tally} (record { above = g; below = n }) (record { above = h; below = m }) = done-inj e in
     λ j. tallied.Done (p j .above) (p j .below)
@@ -35,17 +35,21 @@ pub check-tag-unique : (ml? : Bool) (seq mm ml : List ℕ) (r s : Reading)
     → ChecksTag ml? seq mm ml r → ChecksTag ml? seq mm ml s → r ≡ s
 check-tag-unique ml? seq mm ml r s p q = reading-says-inj r s (settled (readingSays r) (readingSays s) p q)
 
--- the answer and the three columns
-pub read-calls-unique : (ml? : Bool) (seq mm ml groups places starts : List ℕ) (r s : Reading) (g h p q a b : List ℕ)
-    → ReadsCalls ml? seq mm ml groups places starts r g p a → ReadsCalls ml? seq mm ml groups places starts s h q b
-    → (r ≡ s) × (g ≡ h) × (p ≡ q) × (a ≡ b)
-read-calls-unique ml? seq mm ml groups places starts r s g h p q a b e f =
+-- the answer and the three columns, whatever the call leaves
+pub calls-unique : (o : CallsRead) (r s : Reading) (g h p q a b : List ℕ)
+    → callsRead (readingSays r) g p a ≡ o → callsRead (readingSays s) h q b ≡ o → (r ≡ s) × (g ≡ h) × (p ≡ q) × (a ≡ b)
+calls-unique o r s g h p q a b e f =
     let same = settled (callsRead (readingSays r) g p a) (callsRead (readingSays s) h q b) e f in (
       reading-says-inj r s (ap (λ (c : CallsRead). c .answer) same),
       ap (λ (c : CallsRead). c .groups) same,
       ap (λ (c : CallsRead). c .places) same,
       ap (λ (c : CallsRead). c .starts) same,
     )
+
+pub read-calls-unique : (ml? : Bool) (seq mm ml groups places starts : List ℕ) (r s : Reading) (g h p q a b : List ℕ)
+    → ReadsCalls ml? seq mm ml groups places starts r g p a → ReadsCalls ml? seq mm ml groups places starts s h q b
+    → (r ≡ s) × (g ≡ h) × (p ≡ q) × (a ≡ b)
+read-calls-unique ml? seq mm ml groups places starts = calls-unique _
 
 pub tally-unique : (seq mm ml : List ℕ) (r s : Tallied) → Tallies seq mm ml r → Tallies seq mm ml s → r ≡ s
 tally-unique seq mm ml r s p q = tally-says-inj r s (settled (tallySays r) (tallySays s) p q)

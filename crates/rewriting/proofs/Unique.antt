@@ -13,7 +13,7 @@ use Rattle.rewriting.specs.Contracts.{Drops, Masks, Trims}
 use Rattle.rewriting.specs.declared.WindowStart.{WindowStart}
 
 -- whatever the call leaves
-rewrote-unique : (o : Rewrote) (r s : Tagged) (t u v w : List ℕ) → rewrote (tagSays r) t v ≡ o → rewrote (tagSays s) u w ≡ o
+pub rewrote-unique : (o : Rewrote) (r s : Tagged) (t u v w : List ℕ) → rewrote (tagSays r) t v ≡ o → rewrote (tagSays s) u w ≡ o
     → (r ≡ s) × (t ≡ u) × (v ≡ w)
 rewrote-unique o r s t u v w p q =
     let same = settled (rewrote (tagSays r) t v) (rewrote (tagSays s) u w) p q in

@@ -81,11 +81,11 @@ pub record In-order (ml? : Bool) (m : Memory) : Type 0 where
   pub text-buffer : m .lengths .text ≤ length (m .text)
   pub ml-buffer : ml? ≡ true → m .lengths .ml ≤ length (m .ml)
 
-if-ml : (ml? t : Bool) → cond ml? t true ≡ true → ml? ≡ true → t ≡ true
+pub if-ml : (ml? t : Bool) → cond ml? t true ≡ true → ml? ≡ true → t ≡ true
 if-ml true t e h = e
 if-ml false t e h = cc
 
-ml-if : (ml? t : Bool) → (ml? ≡ true → t ≡ true) → cond ml? t true ≡ true
+pub ml-if : (ml? t : Bool) → (ml? ≡ true → t ≡ true) → cond ml? t true ≡ true
 ml-if true t f = f refl
 ml-if false t f = refl
 

@@ -12,7 +12,7 @@ use Rattle.stepping.specs.Steps.{came, leavesMemory, stepSays}
 use Rattle.stepping.specs.declared.Stepped.the-variants as stepped
 
 -- a call can answer and leave every outcome of a step
-answered : (w : Rows) (t : Step) (o : Outcome Memory)
+pub answered : (w : Rows) (t : Step) (o : Outcome Memory)
     → (c : Call) × (c .asked ≡ t) × (came (stepSays (c .answered)) (c .seq) (c .mm) (c .ml) ≡ leavesMemory (inMemory w) o)
 unfolding leavesMemory
 answered w t (refused r) = (record { asked = t; answered = stepped.Refused r; seq = w .seq; mm = w .mm; ml = w .ml }, refl, refl)

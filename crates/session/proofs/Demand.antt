@@ -25,7 +25,7 @@ use Rattle.session.specs.Contracts.{Call, Meets, Opens, Rows, inMemory}
 -- ---- call by call
 
 -- rows are known from the memory that they are
-same-rows : (w u : Rows) → inMemory w ≡ inMemory u → w ≡ u
+pub same-rows : (w u : Rows) → inMemory w ≡ inMemory u → w ≡ u
 same-rows w u e = λ j. record {
   seq = e j .seq;
   mm = e j .text;

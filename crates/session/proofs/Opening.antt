@@ -20,13 +20,13 @@ module _ (ml? : Bool) (m : Memory) where
   open-refused r e = order-refused ml? m _ r e
 
   -- of the row lent for ML only as much is looked at as there is
-  same-lists : (b : Bool) (seq text : List ℕ) (k : ℕ) → k ≡ cond b (m .lengths .ml) 0
+  pub same-lists : (b : Bool) (seq text : List ℕ) (k : ℕ) → k ≡ cond b (m .lengths .ml) 0
       → lists b seq text (take k (m .ml)) ≡ lists b seq text (take (m .lengths .ml) (m .ml))
   unfolding lists read
   same-lists true seq text k e = ap (λ (i : ℕ). lists true seq text (take i (m .ml))) e
   same-lists false seq text k e = refl
 
-  few : (b : Bool) (k : ℕ) → k ≡ cond b (m .lengths .ml) 0 → cond b (m .lengths .ml) 0 ≤ 65536 → cond b (length (take k (m .ml))) 0 ≤ 65536
+  pub few : (b : Bool) (k : ℕ) → k ≡ cond b (m .lengths .ml) 0 → cond b (m .lengths .ml) 0 ≤ 65536 → cond b (length (take k (m .ml))) 0 ≤ 65536
   few true k e h = omega (arith, e, h, length-take k (m .ml))
   few false k e h = omega arith
 

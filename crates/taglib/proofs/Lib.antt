@@ -3,6 +3,7 @@ pub mod BuildingCited
 pub mod Chosen
 pub mod DuplexCited
 pub mod EvidenceCited
+pub mod HandedStored
 pub mod Numbers
 pub mod PatternCited
 pub mod ReadingCited
@@ -10,6 +11,9 @@ pub mod Refused
 pub mod Returned
 pub mod RewritingCited
 pub mod SessionCited
+pub mod StoredReadingCited
+pub mod StoredRewritingCited
+pub mod StoredSessionCited
 pub mod TranscriptCited
 pub mod Unique
 pub mod Yes

@@ -24,6 +24,9 @@ use Rattle.samtags.specs.Session.{cut, dropCalls, mask, openSession, stepInMemo
 use Rattle.reading.specs.Calls.{listedCalls}
 use Rattle.duplex.specs.Contracts.{Rows, lengthsLent}
 use Rattle.modes.specs.Modes.{modeOf}
+use Rattle.stored.specs.Reads.{listedStored, readStored, tallyStored, turnStored, unpackStored}
+use Rattle.stored_edits.specs.Edits.{cutStored, dropStored, maskStored}
+use Rattle.stored_steps.specs.Steps.{openStored, stepStored}
 use Rattle.telling.specs.Starts.{givenStart}
 use Rattle.telling.specs.Told.{yes}
 use Rattle.taglib.specs.AlignmentContracts.{FetchesBasesInC, FindsPlacesInC}
@@ -35,10 +38,16 @@ use Rattle.taglib.specs.ReadingContracts.{ChecksTagInC, ReadsCallsInC, T
 use Rattle.taglib.specs.Returns.{Returns}
 use Rattle.taglib.specs.RewritingContracts.{CutsTagInC, DropsFromTagInC, MasksTagInC}
 use Rattle.taglib.specs.SessionContracts.{OpensInC, StepsInC, sessionIn}
+use Rattle.taglib.specs.StoredReadingContracts.{ChecksStoredInC, ReadsStoredInC, TalliesStoredInC, TurnsInC, UnpacksInC}
+use Rattle.taglib.specs.StoredRewritingContracts.{CutsStoredInC, DropsStoredInC, MasksStoredInC}
+use Rattle.taglib.specs.StoredSessionContracts.{OpensStoredInC, StepsStoredInC}
 use Rattle.taglib.proofs.Returned.{mode-only, only-more, returned-filled, returned-only, returned-written}
 use Rattle.alignment.proofs.Numbers.{fetch-ref-bases-at-positions-numbers, query-to-ref-positions-numbers}
 use Rattle.annotation.proofs.Numbers.{annotate-simplex-methylation-numbers, converted-counts-numbers, gate-to-informative-numbers, restore-unconverted-bases-numbers, truncate-numbers, unconverted-counts-numbers}
 use Rattle.duplex.proofs.Numbers.{duplex-tags-only}
+use Rattle.stored.proofs.Numbers.{listed-stored-only, read-stored-only, tally-stored-only, turn-stored-only, unpack-stored-only}
+use Rattle.stored_edits.proofs.Numbers.{cut-stored-only, drop-stored-only, mask-stored-only}
+use Rattle.stored_session.proofs.Numbers.{open-stored-only, step-stored-only}
 use Rattle.samtags.proofs.Numbers.{build-tag-only, buildNumbers, cut-tag-only, drop-tag-only, longTag, mask-tag-only, open-session-only, read-tag-only, step-only, tally-tag-only}
 
 -- ---- the chemistry
@@ -226,3 +235,86 @@ pub aql-session-cut-numbers : (front back : ℕ) (seq mm ml : List ℕ) (hasMl :
     → Returns (1 ∷ 2 ∷ 3 ∷ 4 ∷ 5 ∷ 6 ∷ 7 ∷ 8 ∷ 9 ∷ 11 ∷ 21 ∷ []) (stepInMemory (yes hasMl) (cut front back) (sessionIn seq mm ml lengths)) r
 aql-session-cut-numbers front back seq mm ml hasMl lengths r seq′ mm′ ml′ lengths′ h =
     returned-only _ _ refl (h .0) (step-only (yes hasMl) (cut front back) (sessionIn seq mm ml lengths))
+
+-- ---- reads as a BAM record stores them
+
+pub aql-turn-numbers : (packed : List ℕ) (bases : ℕ) (out : List ℕ) (n r : ℕ) (out′ : List ℕ) (n′ : ℕ)
+    → TurnsInC packed bases out n r out′ n′
+    → Returns (1 ∷ 2 ∷ 12 ∷ [])
+    (turnStored bases packed (length out)) r
+aql-turn-numbers packed bases out n r out′ n′ h =
+    returned-only _ _ refl (h .0) (turn-stored-only bases packed (length out))
+
+pub aql-unpack-numbers : (packed : List ℕ) (bases reverse : ℕ) (seq : List ℕ) (n r : ℕ) (seq′ : List ℕ) (n′ : ℕ)
+    → UnpacksInC packed bases reverse seq n r seq′ n′
+    → Returns (1 ∷ 2 ∷ 12 ∷ [])
+    (unpackStored (yes reverse) bases packed (length seq)) r
+aql-unpack-numbers packed bases reverse seq n r seq′ n′ h =
+    returned-only _ _ refl (h .0) (unpack-stored-only (yes reverse) bases packed (length seq))
+
+pub aql-stored-check-tag-numbers : (packed : List ℕ) (bases reverse : ℕ) (mm ml : List ℕ) (hasMl groups calls r groups′ calls′ : ℕ)
+    → ChecksStoredInC packed bases reverse mm ml hasMl groups calls r groups′ calls′
+    → Returns (1 ∷ 2 ∷ 3 ∷ 4 ∷ 5 ∷ 6 ∷ 7 ∷ 8 ∷ 9 ∷ [])
+    (readStored (yes reverse) (yes hasMl) bases packed mm ml) r
+aql-stored-check-tag-numbers packed bases reverse mm ml hasMl groups calls r groups′ calls′ h =
+    returned-only _ _ refl (h .0) (read-stored-only (yes reverse) (yes hasMl) bases packed mm ml)
+
+pub aql-stored-read-calls-numbers : (packed : List ℕ) (bases reverse : ℕ) (mm ml : List ℕ) (hasMl : ℕ) (gs ps ss : List ℕ) (groups calls r : ℕ) (gs′ ps′ ss′ : List ℕ) (groups′ calls′ : ℕ)
+    → ReadsStoredInC packed bases reverse mm ml hasMl gs ps ss groups calls r gs′ ps′ ss′ groups′ calls′
+    → Returns (1 ∷ 2 ∷ 3 ∷ 4 ∷ 5 ∷ 6 ∷ 7 ∷ 8 ∷ 9 ∷ 12 ∷ [])
+    (listedStored (yes reverse) (yes hasMl) bases packed mm ml (length gs) (length ps) (length ss)) r
+aql-stored-read-calls-numbers packed bases reverse mm ml hasMl gs ps ss groups calls r gs′ ps′ ss′ groups′ calls′ h =
+    returned-only _ _ refl (h .0) (listed-stored-only (yes reverse) (yes hasMl) bases packed mm ml (length gs) (length ps) (length ss))
+
+pub aql-stored-tally-numbers : (packed : List ℕ) (bases reverse : ℕ) (mm ml : List ℕ) (above below r above′ below′ : ℕ)
+    → TalliesStoredInC packed bases reverse mm ml above below r above′ below′
+    → Returns (1 ∷ 2 ∷ 3 ∷ 4 ∷ 5 ∷ 6 ∷ 7 ∷ 8 ∷ 9 ∷ [])
+    (tallyStored (yes reverse) bases packed mm ml) r
+aql-stored-tally-numbers packed bases reverse mm ml above below r above′ below′ h =
+    returned-only _ _ refl (h .0) (tally-stored-only (yes reverse) bases packed mm ml)
+
+pub aql-stored-drop-masked-modifications-numbers : (before : List ℕ) (n : ℕ) (after : List ℕ) (k reverse : ℕ) (mm ml : List ℕ) (hasMl : ℕ) (mmOut mlOut : List ℕ) (t v r : ℕ) (mmOut′ mlOut′ : List ℕ) (t′ v′ : ℕ)
+    → MasksStoredInC before n after k reverse mm ml hasMl mmOut mlOut t v r mmOut′ mlOut′ t′ v′
+    → Returns (1 ∷ 2 ∷ 3 ∷ 4 ∷ 5 ∷ 6 ∷ 7 ∷ 8 ∷ 9 ∷ 12 ∷ [])
+    (maskStored (yes reverse) (yes hasMl) n before k after mm ml (length mmOut) (length mlOut)) r
+aql-stored-drop-masked-modifications-numbers before n after k reverse mm ml hasMl mmOut mlOut t v r mmOut′ mlOut′ t′ v′ h =
+    returned-only _ _ refl (h .0) (mask-stored-only (yes reverse) (yes hasMl) mm ml (length mmOut) (length mlOut) n before k after)
+
+pub aql-stored-drop-modifications-at-numbers : (packed : List ℕ) (bases reverse : ℕ) (places mm ml : List ℕ) (hasMl : ℕ) (mmOut mlOut : List ℕ) (t v r : ℕ) (mmOut′ mlOut′ : List ℕ) (t′ v′ : ℕ)
+    → DropsStoredInC packed bases reverse places mm ml hasMl mmOut mlOut t v r mmOut′ mlOut′ t′ v′
+    → Returns (1 ∷ 2 ∷ 3 ∷ 4 ∷ 5 ∷ 6 ∷ 7 ∷ 8 ∷ 9 ∷ 10 ∷ 12 ∷ [])
+    (dropStored (yes reverse) (yes hasMl) bases packed places mm ml (length mmOut) (length mlOut)) r
+aql-stored-drop-modifications-at-numbers packed bases reverse places mm ml hasMl mmOut mlOut t v r mmOut′ mlOut′ t′ v′ h =
+    returned-only _ _ refl (h .0) (drop-stored-only (yes reverse) (yes hasMl) mm ml (length mmOut) (length mlOut) bases packed places)
+
+pub aql-stored-trim-clipped-modifications-numbers : (before : List ℕ) (n : ℕ) (after : List ℕ) (k reverse startKnown start : ℕ) (mm ml : List ℕ) (hasMl : ℕ) (mmOut mlOut : List ℕ) (t v r : ℕ) (mmOut′ mlOut′ : List ℕ) (t′ v′ : ℕ)
+    → CutsStoredInC before n after k reverse startKnown start mm ml hasMl mmOut mlOut t v r mmOut′ mlOut′ t′ v′
+    → Returns (1 ∷ 2 ∷ 3 ∷ 4 ∷ 5 ∷ 6 ∷ 7 ∷ 8 ∷ 9 ∷ 11 ∷ 12 ∷ 21 ∷ [])
+    (cutStored (yes reverse) (yes hasMl) (givenStart startKnown start) n before k after mm ml (length mmOut) (length mlOut)) r
+aql-stored-trim-clipped-modifications-numbers before n after k reverse startKnown start mm ml hasMl mmOut mlOut t v r mmOut′ mlOut′ t′ v′ h =
+    returned-only _ _ refl (h .0) (cut-stored-only (yes reverse) (yes hasMl) mm ml (length mmOut) (length mlOut) (givenStart startKnown start) n before k after)
+
+pub aql-stored-open-numbers : (packed : List ℕ) (reverse : ℕ) (mm ml : List ℕ) (hasMl : ℕ) (lengths : List ℕ) (groups calls r groups′ calls′ : ℕ)
+    → OpensStoredInC packed reverse mm ml hasMl lengths groups calls r groups′ calls′
+    → Returns (1 ∷ 2 ∷ 3 ∷ 4 ∷ 5 ∷ 6 ∷ 7 ∷ 8 ∷ 9 ∷ [])
+    (openStored (yes reverse) (yes hasMl) (sessionIn packed mm ml lengths)) r
+aql-stored-open-numbers packed reverse mm ml hasMl lengths groups calls r groups′ calls′ h =
+    returned-only _ _ refl (h .0) (open-stored-only (yes reverse) (yes hasMl) (sessionIn packed mm ml lengths))
+
+pub aql-stored-mask-numbers : (places : List ℕ) (packed : List ℕ) (reverse : ℕ) (mm ml : List ℕ) (hasMl : ℕ) (lengths : List ℕ) (r : ℕ)
+    (packed′ mm′ ml′ lengths′ : List ℕ) → StepsStoredInC (mask places) packed reverse mm ml hasMl lengths r packed′ mm′ ml′ lengths′
+    → Returns (1 ∷ 2 ∷ 3 ∷ 4 ∷ 5 ∷ 6 ∷ 7 ∷ 8 ∷ 9 ∷ []) (stepStored (yes reverse) (yes hasMl) (mask places) (sessionIn packed mm ml lengths)) r
+aql-stored-mask-numbers places packed reverse mm ml hasMl lengths r packed′ mm′ ml′ lengths′ h =
+    returned-only _ _ refl (h .0) (step-stored-only (yes reverse) (yes hasMl) (mask places) (sessionIn packed mm ml lengths))
+
+pub aql-stored-drop-calls-numbers : (places : List ℕ) (packed : List ℕ) (reverse : ℕ) (mm ml : List ℕ) (hasMl : ℕ) (lengths : List ℕ) (r : ℕ)
+    (packed′ mm′ ml′ lengths′ : List ℕ) → StepsStoredInC (dropCalls places) packed reverse mm ml hasMl lengths r packed′ mm′ ml′ lengths′
+    → Returns (1 ∷ 2 ∷ 3 ∷ 4 ∷ 5 ∷ 6 ∷ 7 ∷ 8 ∷ 9 ∷ 10 ∷ []) (stepStored (yes reverse) (yes hasMl) (dropCalls places) (sessionIn packed mm ml lengths)) r
+aql-stored-drop-calls-numbers places packed reverse mm ml hasMl lengths r packed′ mm′ ml′ lengths′ h =
+    returned-only _ _ refl (h .0) (step-stored-only (yes reverse) (yes hasMl) (dropCalls places) (sessionIn packed mm ml lengths))
+
+pub aql-stored-cut-numbers : (front back : ℕ) (packed : List ℕ) (reverse : ℕ) (mm ml : List ℕ) (hasMl : ℕ) (lengths : List ℕ) (r : ℕ)
+    (packed′ mm′ ml′ lengths′ : List ℕ) → StepsStoredInC (cut front back) packed reverse mm ml hasMl lengths r packed′ mm′ ml′ lengths′
+    → Returns (1 ∷ 2 ∷ 3 ∷ 4 ∷ 5 ∷ 6 ∷ 7 ∷ 8 ∷ 9 ∷ 11 ∷ 21 ∷ []) (stepStored (yes reverse) (yes hasMl) (cut front back) (sessionIn packed mm ml lengths)) r
+aql-stored-cut-numbers front back packed reverse mm ml hasMl lengths r packed′ mm′ ml′ lengths′ h =
+    returned-only _ _ refl (h .0) (step-stored-only (yes reverse) (yes hasMl) (cut front back) (sessionIn packed mm ml lengths))

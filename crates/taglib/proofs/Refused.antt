@@ -20,6 +20,9 @@ use Rattle.samtags.specs.Session.{Step, openSession, stepInMemory}
 use Rattle.reading.specs.Calls.{listedCalls}
 use Rattle.duplex.specs.Contracts.{Rows, elevenRows, lengthsLent}
 use Rattle.modes.specs.Modes.{modeOf}
+use Rattle.stored.specs.Reads.{listedStored, readStored, tallyStored, turnStored, unpackStored}
+use Rattle.stored_edits.specs.Edits.{cutStored, dropStored, maskStored}
+use Rattle.stored_steps.specs.Steps.{openStored, stepStored}
 use Rattle.telling.specs.Starts.{givenStart}
 use Rattle.telling.specs.Told.{yes}
 use Rattle.taglib.specs.PatternContracts.{TellsEnabledInC}
@@ -30,6 +33,9 @@ use Rattle.taglib.specs.DuplexContracts.{DuplexesInC, duplexesAs}
 use Rattle.taglib.specs.ReadingContracts.{ChecksTagInC, ReadsCallsInC, TalliesInC}
 use Rattle.taglib.specs.RewritingContracts.{MasksTagInC, DropsFromTagInC, CutsTagInC}
 use Rattle.taglib.specs.SessionContracts.{OpensInC, StepsInC, sessionIn}
+use Rattle.taglib.specs.StoredReadingContracts.{ChecksStoredInC, ReadsStoredInC, TalliesStoredInC, TurnsInC, UnpacksInC}
+use Rattle.taglib.specs.StoredRewritingContracts.{CutsStoredInC, DropsStoredInC, MasksStoredInC}
+use Rattle.taglib.specs.StoredSessionContracts.{OpensStoredInC, StepsStoredInC}
 use Rattle.taglib.proofs.Returned.{not-returned, told-kept}
 
 pub aql-mode-is-enabled-refused : (mode enabled r enabled′ : ℕ) → TellsEnabledInC mode enabled r enabled′ → eqb r 0 ≡ false → enabled′ ≡ enabled
@@ -189,3 +195,107 @@ aql-session-step-refused t seq mm ml hasMl lengths r seq′ mm′ ml′ lengths�
     let o = stepInMemory (yes hasMl) t (sessionIn seq mm ml lengths) in
     let d = not-returned o (h .0) z in
     (told-kept _ o lengths lengths′ (h .1) d, told-kept _ o seq seq′ (h .2) d, told-kept _ o mm mm′ (h .3) d, told-kept _ o ml ml′ (h .4) d)
+
+-- ---- reads as a BAM record stores them
+
+pub aql-turn-refused : (packed : List ℕ) (bases : ℕ) (out : List ℕ) (n r : ℕ) (out′ : List ℕ) (n′ : ℕ)
+    → TurnsInC packed bases out n r out′ n′ → eqb r 0 ≡ false → (n′ ≡ n) × (out′ ≡ out)
+aql-turn-refused packed bases out n r out′ n′ h z =
+    let o = turnStored bases packed (length out) in
+    let d = not-returned o (h .0) z in (
+      told-kept _ o n n′ (h .1) d,
+      row-kept _ o out out′ (h .2) d,
+    )
+
+pub aql-unpack-refused : (packed : List ℕ) (bases reverse : ℕ) (seq : List ℕ) (n r : ℕ) (seq′ : List ℕ) (n′ : ℕ)
+    → UnpacksInC packed bases reverse seq n r seq′ n′ → eqb r 0 ≡ false → (n′ ≡ n) × (seq′ ≡ seq)
+aql-unpack-refused packed bases reverse seq n r seq′ n′ h z =
+    let o = unpackStored (yes reverse) bases packed (length seq) in
+    let d = not-returned o (h .0) z in (
+      told-kept _ o n n′ (h .1) d,
+      row-kept _ o seq seq′ (h .2) d,
+    )
+
+pub aql-stored-check-tag-refused : (packed : List ℕ) (bases reverse : ℕ) (mm ml : List ℕ) (hasMl groups calls r groups′ calls′ : ℕ)
+    → ChecksStoredInC packed bases reverse mm ml hasMl groups calls r groups′ calls′ → eqb r 0 ≡ false → (groups′ ≡ groups) × (calls′ ≡ calls)
+aql-stored-check-tag-refused packed bases reverse mm ml hasMl groups calls r groups′ calls′ h z =
+    let o = readStored (yes reverse) (yes hasMl) bases packed mm ml in
+    let d = not-returned o (h .0) z in (
+      told-kept _ o groups groups′ (h .1) d,
+      told-kept _ o calls calls′ (h .2) d,
+    )
+
+pub aql-stored-read-calls-refused : (packed : List ℕ) (bases reverse : ℕ) (mm ml : List ℕ) (hasMl : ℕ) (gs ps ss : List ℕ) (groups calls r : ℕ) (gs′ ps′ ss′ : List ℕ) (groups′ calls′ : ℕ)
+    → ReadsStoredInC packed bases reverse mm ml hasMl gs ps ss groups calls r gs′ ps′ ss′ groups′ calls′ → eqb r 0 ≡ false → (groups′ ≡ groups) × (calls′ ≡ calls) × (gs′ ≡ gs) × (ps′ ≡ ps) × (ss′ ≡ ss)
+aql-stored-read-calls-refused packed bases reverse mm ml hasMl gs ps ss groups calls r gs′ ps′ ss′ groups′ calls′ h z =
+    let o = listedStored (yes reverse) (yes hasMl) bases packed mm ml (length gs) (length ps) (length ss) in
+    let d = not-returned o (h .0) z in (
+      told-kept _ o groups groups′ (h .1) d,
+      told-kept _ o calls calls′ (h .2) d,
+      row-kept _ o gs gs′ (h .3) d,
+      row-kept _ o ps ps′ (h .4) d,
+      row-kept _ o ss ss′ (h .5) d,
+    )
+
+pub aql-stored-tally-refused : (packed : List ℕ) (bases reverse : ℕ) (mm ml : List ℕ) (above below r above′ below′ : ℕ)
+    → TalliesStoredInC packed bases reverse mm ml above below r above′ below′ → eqb r 0 ≡ false → (above′ ≡ above) × (below′ ≡ below)
+aql-stored-tally-refused packed bases reverse mm ml above below r above′ below′ h z =
+    let o = tallyStored (yes reverse) bases packed mm ml in
+    let d = not-returned o (h .0) z in (
+      told-kept _ o above above′ (h .1) d,
+      told-kept _ o below below′ (h .2) d,
+    )
+
+pub aql-stored-drop-masked-modifications-refused : (before : List ℕ) (n : ℕ) (after : List ℕ) (k reverse : ℕ) (mm ml : List ℕ) (hasMl : ℕ) (mmOut mlOut : List ℕ) (t v r : ℕ) (mmOut′ mlOut′ : List ℕ) (t′ v′ : ℕ)
+    → MasksStoredInC before n after k reverse mm ml hasMl mmOut mlOut t v r mmOut′ mlOut′ t′ v′ → eqb r 0 ≡ false → (t′ ≡ t) × (v′ ≡ v) × (mmOut′ ≡ mmOut) × (mlOut′ ≡ mlOut)
+aql-stored-drop-masked-modifications-refused before n after k reverse mm ml hasMl mmOut mlOut t v r mmOut′ mlOut′ t′ v′ h z =
+    let o = maskStored (yes reverse) (yes hasMl) n before k after mm ml (length mmOut) (length mlOut) in
+    let d = not-returned o (h .0) z in (
+      told-kept _ o t t′ (h .1) d,
+      told-kept _ o v v′ (h .2) d,
+      row-kept _ o mmOut mmOut′ (h .3) d,
+      row-kept _ o mlOut mlOut′ (h .4) d,
+    )
+
+pub aql-stored-drop-modifications-at-refused : (packed : List ℕ) (bases reverse : ℕ) (places mm ml : List ℕ) (hasMl : ℕ) (mmOut mlOut : List ℕ) (t v r : ℕ) (mmOut′ mlOut′ : List ℕ) (t′ v′ : ℕ)
+    → DropsStoredInC packed bases reverse places mm ml hasMl mmOut mlOut t v r mmOut′ mlOut′ t′ v′ → eqb r 0 ≡ false → (t′ ≡ t) × (v′ ≡ v) × (mmOut′ ≡ mmOut) × (mlOut′ ≡ mlOut)
+aql-stored-drop-modifications-at-refused packed bases reverse places mm ml hasMl mmOut mlOut t v r mmOut′ mlOut′ t′ v′ h z =
+    let o = dropStored (yes reverse) (yes hasMl) bases packed places mm ml (length mmOut) (length mlOut) in
+    let d = not-returned o (h .0) z in (
+      told-kept _ o t t′ (h .1) d,
+      told-kept _ o v v′ (h .2) d,
+      row-kept _ o mmOut mmOut′ (h .3) d,
+      row-kept _ o mlOut mlOut′ (h .4) d,
+    )
+
+pub aql-stored-trim-clipped-modifications-refused : (before : List ℕ) (n : ℕ) (after : List ℕ) (k reverse startKnown start : ℕ) (mm ml : List ℕ) (hasMl : ℕ) (mmOut mlOut : List ℕ) (t v r : ℕ) (mmOut′ mlOut′ : List ℕ) (t′ v′ : ℕ)
+    → CutsStoredInC before n after k reverse startKnown start mm ml hasMl mmOut mlOut t v r mmOut′ mlOut′ t′ v′ → eqb r 0 ≡ false → (t′ ≡ t) × (v′ ≡ v) × (mmOut′ ≡ mmOut) × (mlOut′ ≡ mlOut)
+aql-stored-trim-clipped-modifications-refused before n after k reverse startKnown start mm ml hasMl mmOut mlOut t v r mmOut′ mlOut′ t′ v′ h z =
+    let o = cutStored (yes reverse) (yes hasMl) (givenStart startKnown start) n before k after mm ml (length mmOut) (length mlOut) in
+    let d = not-returned o (h .0) z in (
+      told-kept _ o t t′ (h .1) d,
+      told-kept _ o v v′ (h .2) d,
+      row-kept _ o mmOut mmOut′ (h .3) d,
+      row-kept _ o mlOut mlOut′ (h .4) d,
+    )
+
+pub aql-stored-open-refused : (packed : List ℕ) (reverse : ℕ) (mm ml : List ℕ) (hasMl : ℕ) (lengths : List ℕ) (groups calls r groups′ calls′ : ℕ)
+    → OpensStoredInC packed reverse mm ml hasMl lengths groups calls r groups′ calls′ → eqb r 0 ≡ false → (groups′ ≡ groups) × (calls′ ≡ calls)
+aql-stored-open-refused packed reverse mm ml hasMl lengths groups calls r groups′ calls′ h z =
+    let o = openStored (yes reverse) (yes hasMl) (sessionIn packed mm ml lengths) in
+    let d = not-returned o (h .0) z in (
+      told-kept _ o groups groups′ (h .1) d,
+      told-kept _ o calls calls′ (h .2) d,
+    )
+
+-- `aql_stored_mask`, `aql_stored_drop_calls` and `aql_stored_cut`
+pub aql-stored-step-refused : (t : Step) (packed : List ℕ) (reverse : ℕ) (mm ml : List ℕ) (hasMl : ℕ) (lengths : List ℕ) (r : ℕ) (packed′ mm′ ml′ lengths′ : List ℕ)
+    → StepsStoredInC t packed reverse mm ml hasMl lengths r packed′ mm′ ml′ lengths′ → eqb r 0 ≡ false → (lengths′ ≡ lengths) × (packed′ ≡ packed) × (mm′ ≡ mm) × (ml′ ≡ ml)
+aql-stored-step-refused t packed reverse mm ml hasMl lengths r packed′ mm′ ml′ lengths′ h z =
+    let o = stepStored (yes reverse) (yes hasMl) t (sessionIn packed mm ml lengths) in
+    let d = not-returned o (h .0) z in (
+      told-kept _ o lengths lengths′ (h .1) d,
+      told-kept _ o packed packed′ (h .2) d,
+      told-kept _ o mm mm′ (h .3) d,
+      told-kept _ o ml ml′ (h .4) d,
+    )

@@ -17,6 +17,9 @@ use Rattle.taglib.specs.DuplexContracts.{DuplexesInC}
 use Rattle.taglib.specs.ReadingContracts.{ChecksTagInC, ReadsCallsInC, TalliesInC}
 use Rattle.taglib.specs.RewritingContracts.{MasksTagInC, DropsFromTagInC, CutsTagInC}
 use Rattle.taglib.specs.SessionContracts.{OpensInC, StepsInC}
+use Rattle.taglib.specs.StoredReadingContracts.{ChecksStoredInC, ReadsStoredInC, TalliesStoredInC, TurnsInC, UnpacksInC}
+use Rattle.taglib.specs.StoredRewritingContracts.{CutsStoredInC, DropsStoredInC, MasksStoredInC}
+use Rattle.taglib.specs.StoredSessionContracts.{OpensStoredInC, StepsStoredInC}
 use Rattle.taglib.specs.TranscriptContracts.{TranscribesInC}
 
 -- ---- bytes, patterns and the chemistry
@@ -247,6 +250,110 @@ aql-session-step-unique t seq mm ml hasMl lengths r seq′ mm′ ml′ lengths�
   settled r s (h .0) (k .0),
   settled lengths′ lengths″ (h .1) (k .1),
   settled seq′ seq″ (h .2) (k .2),
+  settled mm′ mm″ (h .3) (k .3),
+  settled ml′ ml″ (h .4) (k .4),
+)
+
+-- ---- reads as a BAM record stores them
+
+pub aql-turn-unique : (packed : List ℕ) (bases : ℕ) (out : List ℕ) (n r : ℕ) (out′ : List ℕ) (n′ s : ℕ) (out″ : List ℕ) (n″ : ℕ)
+    → TurnsInC packed bases out n r out′ n′ → TurnsInC packed bases out n s out″ n″
+    → (r ≡ s) × (n′ ≡ n″) × (out′ ≡ out″)
+aql-turn-unique packed bases out n r out′ n′ s out″ n″ h k = (
+  settled r s (h .0) (k .0),
+  settled n′ n″ (h .1) (k .1),
+  settled out′ out″ (h .2) (k .2),
+)
+
+pub aql-unpack-unique : (packed : List ℕ) (bases reverse : ℕ) (seq : List ℕ) (n r : ℕ) (seq′ : List ℕ) (n′ s : ℕ) (seq″ : List ℕ) (n″ : ℕ)
+    → UnpacksInC packed bases reverse seq n r seq′ n′ → UnpacksInC packed bases reverse seq n s seq″ n″
+    → (r ≡ s) × (n′ ≡ n″) × (seq′ ≡ seq″)
+aql-unpack-unique packed bases reverse seq n r seq′ n′ s seq″ n″ h k = (
+  settled r s (h .0) (k .0),
+  settled n′ n″ (h .1) (k .1),
+  settled seq′ seq″ (h .2) (k .2),
+)
+
+pub aql-stored-check-tag-unique : (packed : List ℕ) (bases reverse : ℕ) (mm ml : List ℕ) (hasMl groups calls r groups′ calls′ s groups″ calls″ : ℕ)
+    → ChecksStoredInC packed bases reverse mm ml hasMl groups calls r groups′ calls′ → ChecksStoredInC packed bases reverse mm ml hasMl groups calls s groups″ calls″
+    → (r ≡ s) × (groups′ ≡ groups″) × (calls′ ≡ calls″)
+aql-stored-check-tag-unique packed bases reverse mm ml hasMl groups calls r groups′ calls′ s groups″ calls″ h k = (
+  settled r s (h .0) (k .0),
+  settled groups′ groups″ (h .1) (k .1),
+  settled calls′ calls″ (h .2) (k .2),
+)
+
+pub aql-stored-read-calls-unique : (packed : List ℕ) (bases reverse : ℕ) (mm ml : List ℕ) (hasMl : ℕ) (gs ps ss : List ℕ) (groups calls r : ℕ) (gs′ ps′ ss′ : List ℕ) (groups′ calls′ s : ℕ) (gs″ ps″ ss″ : List ℕ) (groups″ calls″ : ℕ)
+    → ReadsStoredInC packed bases reverse mm ml hasMl gs ps ss groups calls r gs′ ps′ ss′ groups′ calls′ → ReadsStoredInC packed bases reverse mm ml hasMl gs ps ss groups calls s gs″ ps″ ss″ groups″ calls″
+    → (r ≡ s) × (groups′ ≡ groups″) × (calls′ ≡ calls″) × (gs′ ≡ gs″) × (ps′ ≡ ps″) × (ss′ ≡ ss″)
+aql-stored-read-calls-unique packed bases reverse mm ml hasMl gs ps ss groups calls r gs′ ps′ ss′ groups′ calls′ s gs″ ps″ ss″ groups″ calls″ h k = (
+  settled r s (h .0) (k .0),
+  settled groups′ groups″ (h .1) (k .1),
+  settled calls′ calls″ (h .2) (k .2),
+  settled gs′ gs″ (h .3) (k .3),
+  settled ps′ ps″ (h .4) (k .4),
+  settled ss′ ss″ (h .5) (k .5),
+)
+
+pub aql-stored-tally-unique : (packed : List ℕ) (bases reverse : ℕ) (mm ml : List ℕ) (above below r above′ below′ s above″ below″ : ℕ)
+    → TalliesStoredInC packed bases reverse mm ml above below r above′ below′ → TalliesStoredInC packed bases reverse mm ml above below s above″ below″
+    → (r ≡ s) × (above′ ≡ above″) × (below′ ≡ below″)
+aql-stored-tally-unique packed bases reverse mm ml above below r above′ below′ s above″ below″ h k = (
+  settled r s (h .0) (k .0),
+  settled above′ above″ (h .1) (k .1),
+  settled below′ below″ (h .2) (k .2),
+)
+
+pub aql-stored-drop-masked-modifications-unique : (before : List ℕ) (n : ℕ) (after : List ℕ) (k reverse : ℕ) (mm ml : List ℕ) (hasMl : ℕ) (mmOut mlOut : List ℕ) (t v r : ℕ) (mmOut′ mlOut′ : List ℕ) (t′ v′ s : ℕ) (mmOut″ mlOut″ : List ℕ) (t″ v″ : ℕ)
+    → MasksStoredInC before n after k reverse mm ml hasMl mmOut mlOut t v r mmOut′ mlOut′ t′ v′ → MasksStoredInC before n after k reverse mm ml hasMl mmOut mlOut t v s mmOut″ mlOut″ t″ v″
+    → (r ≡ s) × (t′ ≡ t″) × (v′ ≡ v″) × (mmOut′ ≡ mmOut″) × (mlOut′ ≡ mlOut″)
+aql-stored-drop-masked-modifications-unique before n after k reverse mm ml hasMl mmOut mlOut t v r mmOut′ mlOut′ t′ v′ s mmOut″ mlOut″ t″ v″ h g = (
+  settled r s (h .0) (g .0),
+  settled t′ t″ (h .1) (g .1),
+  settled v′ v″ (h .2) (g .2),
+  settled mmOut′ mmOut″ (h .3) (g .3),
+  settled mlOut′ mlOut″ (h .4) (g .4),
+)
+
+pub aql-stored-drop-modifications-at-unique : (packed : List ℕ) (bases reverse : ℕ) (places mm ml : List ℕ) (hasMl : ℕ) (mmOut mlOut : List ℕ) (t v r : ℕ) (mmOut′ mlOut′ : List ℕ) (t′ v′ s : ℕ) (mmOut″ mlOut″ : List ℕ) (t″ v″ : ℕ)
+    → DropsStoredInC packed bases reverse places mm ml hasMl mmOut mlOut t v r mmOut′ mlOut′ t′ v′ → DropsStoredInC packed bases reverse places mm ml hasMl mmOut mlOut t v s mmOut″ mlOut″ t″ v″
+    → (r ≡ s) × (t′ ≡ t″) × (v′ ≡ v″) × (mmOut′ ≡ mmOut″) × (mlOut′ ≡ mlOut″)
+aql-stored-drop-modifications-at-unique packed bases reverse places mm ml hasMl mmOut mlOut t v r mmOut′ mlOut′ t′ v′ s mmOut″ mlOut″ t″ v″ h k = (
+  settled r s (h .0) (k .0),
+  settled t′ t″ (h .1) (k .1),
+  settled v′ v″ (h .2) (k .2),
+  settled mmOut′ mmOut″ (h .3) (k .3),
+  settled mlOut′ mlOut″ (h .4) (k .4),
+)
+
+pub aql-stored-trim-clipped-modifications-unique : (before : List ℕ) (n : ℕ) (after : List ℕ) (k reverse startKnown start : ℕ) (mm ml : List ℕ) (hasMl : ℕ) (mmOut mlOut : List ℕ) (t v r : ℕ) (mmOut′ mlOut′ : List ℕ) (t′ v′ s : ℕ) (mmOut″ mlOut″ : List ℕ) (t″ v″ : ℕ)
+    → CutsStoredInC before n after k reverse startKnown start mm ml hasMl mmOut mlOut t v r mmOut′ mlOut′ t′ v′ → CutsStoredInC before n after k reverse startKnown start mm ml hasMl mmOut mlOut t v s mmOut″ mlOut″ t″ v″
+    → (r ≡ s) × (t′ ≡ t″) × (v′ ≡ v″) × (mmOut′ ≡ mmOut″) × (mlOut′ ≡ mlOut″)
+aql-stored-trim-clipped-modifications-unique before n after k reverse startKnown start mm ml hasMl mmOut mlOut t v r mmOut′ mlOut′ t′ v′ s mmOut″ mlOut″ t″ v″ h g = (
+  settled r s (h .0) (g .0),
+  settled t′ t″ (h .1) (g .1),
+  settled v′ v″ (h .2) (g .2),
+  settled mmOut′ mmOut″ (h .3) (g .3),
+  settled mlOut′ mlOut″ (h .4) (g .4),
+)
+
+pub aql-stored-open-unique : (packed : List ℕ) (reverse : ℕ) (mm ml : List ℕ) (hasMl : ℕ) (lengths : List ℕ) (groups calls r groups′ calls′ s groups″ calls″ : ℕ)
+    → OpensStoredInC packed reverse mm ml hasMl lengths groups calls r groups′ calls′ → OpensStoredInC packed reverse mm ml hasMl lengths groups calls s groups″ calls″
+    → (r ≡ s) × (groups′ ≡ groups″) × (calls′ ≡ calls″)
+aql-stored-open-unique packed reverse mm ml hasMl lengths groups calls r groups′ calls′ s groups″ calls″ h k = (
+  settled r s (h .0) (k .0),
+  settled groups′ groups″ (h .1) (k .1),
+  settled calls′ calls″ (h .2) (k .2),
+)
+
+-- `aql_stored_mask`, `aql_stored_drop_calls` and `aql_stored_cut`
+pub aql-stored-step-unique : (t : Step) (packed : List ℕ) (reverse : ℕ) (mm ml : List ℕ) (hasMl : ℕ) (lengths : List ℕ) (r : ℕ) (packed′ mm′ ml′ lengths′ : List ℕ) (s : ℕ) (packed″ mm″ ml″ lengths″ : List ℕ)
+    → StepsStoredInC t packed reverse mm ml hasMl lengths r packed′ mm′ ml′ lengths′ → StepsStoredInC t packed reverse mm ml hasMl lengths s packed″ mm″ ml″ lengths″
+    → (r ≡ s) × (lengths′ ≡ lengths″) × (packed′ ≡ packed″) × (mm′ ≡ mm″) × (ml′ ≡ ml″)
+aql-stored-step-unique t packed reverse mm ml hasMl lengths r packed′ mm′ ml′ lengths′ s packed″ mm″ ml″ lengths″ h k = (
+  settled r s (h .0) (k .0),
+  settled lengths′ lengths″ (h .1) (k .1),
+  settled packed′ packed″ (h .2) (k .2),
   settled mm′ mm″ (h .3) (k .3),
   settled ml′ ml″ (h .4) (k .4),
 )

@@ -9,4 +9,7 @@ pub mod ReadingContracts
 pub mod Returns
 pub mod RewritingContracts
 pub mod SessionContracts
+pub mod StoredReadingContracts
+pub mod StoredRewritingContracts
+pub mod StoredSessionContracts
 pub mod TranscriptContracts

@@ -12,4 +12,7 @@ pub mod patterns;
 pub mod reading_tags;
 pub mod rewriting_tags;
 pub mod sessions;
+pub mod stored_reading;
+pub mod stored_rewriting;
+pub mod stored_sessions;
 pub mod transcripts;

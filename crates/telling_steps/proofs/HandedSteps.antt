@@ -28,7 +28,7 @@ StepTold m o r row₀ row seq text ml =
     × (seq ≡ told (λ (n : Memory). n .seq) o (m .seq)) × (text ≡ told (λ (n : Memory). n .text) o (m .text))
     × (ml ≡ told (λ (n : Memory). n .ml) o (m .ml))
 
-came-told : (m : Memory) (o : Outcome Memory) (row₀ : List ℕ) {w : Outcome Lengths} {r : ℕ} {row seq text ml : List ℕ}
+pub came-told : (m : Memory) (o : Outcome Memory) (row₀ : List ℕ) {w : Outcome Lengths} {r : ℕ} {row seq text ml : List ℕ}
     → came w seq text ml ≡ leavesMemory m o → (r ≡ numberOf w) × (row ≡ told lengthRow w row₀) → StepTold m o r row₀ row seq text ml
 unfolding leavesMemory
 came-told m (refused s) row₀ e h = (

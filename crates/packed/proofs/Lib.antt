@@ -1,0 +1,4 @@
+pub mod Codes
+pub mod Examples
+pub mod Rows
+pub mod Turning

@@ -1,0 +1,7 @@
+pub mod EditLaws
+pub mod Cited
+pub mod Unique
+pub mod Numbers
+pub mod Refused
+pub mod Turned
+pub mod Examples

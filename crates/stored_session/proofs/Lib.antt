@@ -1,0 +1,11 @@
+pub mod AsPlain
+pub mod ChainExists
+pub mod Demand
+pub mod Examples
+pub mod Held
+pub mod Numbers
+pub mod Reopening
+pub mod Unique
+pub mod Opening
+pub mod Cited
+pub mod Worked
