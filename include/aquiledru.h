@@ -422,7 +422,7 @@ uint8_t aql_stored_tally(const uint8_t *packed, size_t packed_len, size_t bases,
 
 /* Rewrites the tag of a stored read after its SEQ was masked from `before` to `after`, as aql_drop_masked_modifications does.
  * Returns as aql_drop_masked_modifications does; 1 also if a stated number of bases is over 16,000; 2 if the bytes of before or of after are not as many
- * as its bases take, or the two differ in bases.
+ * as its bases take, or the two differ in their number of bases.
  * Answers 0, 1 to 9, 12. */
 uint8_t aql_stored_drop_masked_modifications(const uint8_t *before, size_t before_len, size_t before_bases,
                                              const uint8_t *after, size_t after_len, size_t after_bases, uint8_t reverse,

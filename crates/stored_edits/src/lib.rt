@@ -62,7 +62,7 @@ fn mask_with(
 }
 
 // The stored SEQ was masked: `after` has as many bases as `before`. A base that `after` no longer holds leaves its group: its call is dropped, and it
-// counts in no later skip. 2 also if the two differ in their bases.
+// counts in no later skip. 2 also if the two differ in their number of bases.
 pub fn drop_masked_modifications(
     before: &[u8],
     before_bases: usize,
