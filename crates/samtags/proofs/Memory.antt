@@ -168,7 +168,7 @@ step-follows ml? t m i =
     rw (in-order-is ml? m i (andThen (stepped ml? t (heldIn m)) (λ s. done (stored ml? m s))))
     (follows ml? m i (stepped ml? t (heldIn m)) (step-shrinks ml? t (heldIn m)))
 
-run-follows : (ml? : Bool) (ts : List Step) (m : Memory) → In-order ml? m
+pub run-follows : (ml? : Bool) (ts : List Step) (m : Memory) → In-order ml? m
     → (heldIn (runInMemory ml? ts m) ≡ run ml? ts (heldIn m)) × (answersInMemory ml? ts m ≡ answers ml? ts (heldIn m))
 unfolding runInMemory answersInMemory run answers
 run-follows ml? [] m i = (refl, refl)
@@ -222,13 +222,13 @@ pub refused-exactly : (ml? : Bool) (m : Memory) (ls : List Listing) → openSess
     → map isRefusal (answersInMemory ml? ts m) ≡ refusedSteps ls ts (opening (heldIn m .seq))
 refused-exactly ml? m ls e ts = rw (session-in-memory ml? m ls e ts .answers-then) (refused-steps ls ts (opening (heldIn m .seq)))
 
--- a step that answers a number other than 0, a refusal's or 21, changes nothing
+-- a step that answers a number other than 0, a refusal's or 21, changes nothing, whatever the step does otherwise
+pub unchanged : (m : Memory) (o : Outcome Memory) → 0 < numberOf o → afterStep m o ≡ m
+unchanged m (refused r) h = refl
+unchanged m (done n) h = let z : ⊥ = omega arith in absurd z
+
 pub refused-changes-nothing : (ml? : Bool) (t : Step) (m : Memory) → 0 < numberOf (stepInMemory ml? t m) → afterStep m (stepInMemory ml? t m) ≡ m
-refused-changes-nothing ml? t m h = by-outcome (stepInMemory ml? t m) h
-  where
-    by-outcome : (o : Outcome Memory) → 0 < numberOf o → afterStep m o ≡ m
-    by-outcome (refused r) h = refl
-    by-outcome (done n) h = let z : ⊥ = omega arith in absurd z
+refused-changes-nothing ml? t m h = unchanged m (stepInMemory ml? t m) h
 
 -- Such a session can be opened again after any steps, and then lists what is left.
 pub opens-again : (ml? : Bool) (m : Memory) (ls : List Listing) → openSession ml? m ≡ done ls → (ts : List Step)

@@ -1,13 +1,13 @@
 -- Demand 3 about this code, from the contracts of `open`, `mask`, `drop_calls` and `cut` alone. It holds for any list of calls in which each call finds
 -- the rows and the lengths as the previous call left them: the rows at the end and all the answers are what the session means. With and without ML.
 -- Assumes nothing.
-use mathlib.Core.Path.{_≡_, refl, sym, ap, _∙_}
+use mathlib.Core.Path.{_≡_, refl, sym, ap, _∙_, subst}
 use Prim.Native.Nat.{ℕ, _<_}
 use native.Mathlib.Omega.{arith}
 use mathlib.Core.Bool.{Bool}
 use mathlib.Core.List.{List, [], _∷_, map}
 use Rattle.lent.proofs.Outcome.{need-rest, on-done-inv}
-use Rattle.lent.specs.Outcome.{done, numberOf, onDone}
+use Rattle.lent.specs.Outcome.{Outcome, done, numberOf, onDone}
 use Rattle.reading.specs.Calls.{countsOf}
 use Rattle.samtags.proofs.Memory.{session-in-memory}
 use Rattle.samtags.proofs.Memory as memory
@@ -33,10 +33,13 @@ same-rows w u e = λ j. record {
   lengths = record { seq = e j .lengths .seq; mm = e j .lengths .text; ml = e j .lengths .ml };
 }
 
--- a call does to memory what its step does
-pub follows : (ml? : Bool) (w : Rows) (c : Call) → Meets ml? w c
-    → (inMemory (leftBy w c) ≡ afterStep (inMemory w) (stepInMemory ml? (c .asked) (inMemory w)))
-    × (numberOf (stepSays (c .answered)) ≡ numberOf (stepInMemory ml? (c .asked) (inMemory w)))
+-- a call does to memory what `step` does, and answers its number
+abbrev pub Does : (Step → Memory → Outcome Memory) → Rows → Call → Type 0
+Does step w c =
+    (inMemory (leftBy w c) ≡ afterStep (inMemory w) (step (c .asked) (inMemory w)))
+    × (numberOf (stepSays (c .answered)) ≡ numberOf (step (c .asked) (inMemory w)))
+
+pub follows : (ml? : Bool) (w : Rows) (c : Call) → Meets ml? w c → Does (stepInMemory ml?) w c
 follows ml? w c e = by-answer (inMemory w) (w .lengths) refl (c .answered) (stepInMemory ml? (c .asked) (inMemory w)) (c .seq) (c .mm) (c .ml) e
 
 -- the calls do what a run of their steps in memory does
@@ -100,12 +103,28 @@ refused-changes-nothing ml? w c e l =
     let f = follows ml? w c e in
     same-rows (leftBy w c) w (f .0 ∙ memory.refused-changes-nothing ml? (c .asked) (inMemory w) (omega (arith, l, f .1)))
 
--- The steps determine the session: two lists of calls that ask for the same steps on the same rows leave the same rows and give the same numbers.
+-- ---- the steps determine the session
+
+-- Calls one after the other, a chain K of them, that each do to memory what `step` does.
+module _ (step : Step → Memory → Outcome Memory) (K : Rows → List Call → Type 0)
+    (next : (w : Rows) (c : Call) (cs : List Call) → K w (c ∷ cs) → Does step w c × K (leftBy w c) cs) where
+  pub steps-determine : (w : Rows) (cs ds : List Call) → stepsOf cs ≡ stepsOf ds → K w cs → K w ds → (atEnd w cs ≡ atEnd w ds) × (numbersOf cs ≡ numbersOf ds)
+  steps-determine w [] [] e k l = (refl, refl)
+  steps-determine w [] (d ∷ ds) e k l = let z : _≡_ {A = ℕ} 0 1 = cc in absurd (omega arith)
+  steps-determine w (c ∷ cs) [] e k l = let z : _≡_ {A = ℕ} 0 1 = cc in absurd (omega arith)
+  steps-determine w (c ∷ cs) (d ∷ ds) e k l =
+      let a = next w c cs k in
+      let b = next w d ds l in
+      let asks : c .asked ≡ d .asked = cc in
+      let others : stepsOf cs ≡ stepsOf ds = cc in
+      let left : leftBy w c ≡ leftBy w d =
+      same-rows (leftBy w c) (leftBy w d)
+      (a .0 .0 ∙ ap (λ (t : Step). afterStep (inMemory w) (step t (inMemory w))) asks ∙ sym (b .0 .0)) in
+      let number = a .0 .1 ∙ ap (λ (t : Step). numberOf (step t (inMemory w))) asks ∙ sym (b .0 .1) in
+      let rest = steps-determine (leftBy w c) cs ds others (a .1) (subst (λ (u : Rows). K u ds) (sym left) (b .1)) in
+      (rest .0 ∙ ap (λ (u : Rows). atEnd u ds) left, λ j. number j ∷ rest .1 j)
+
+-- Two lists of calls that ask for the same steps on the same rows leave the same rows and give the same numbers.
 pub session-unique : (ml? : Bool) (w : Rows) (cs ds : List Call) → stepsOf cs ≡ stepsOf ds → Chain ml? w cs → Chain ml? w ds
     → (atEnd w cs ≡ atEnd w ds) × (numbersOf cs ≡ numbersOf ds)
-session-unique ml? w cs ds e k l =
-    let a = chain-runs ml? cs w k in
-    let b = chain-runs ml? ds w l in (
-      same-rows (atEnd w cs) (atEnd w ds) (a .0 ∙ ap (λ (ts : List Step). runInMemory ml? ts (inMemory w)) e ∙ sym (b .0)),
-      a .1 ∙ ap (λ (ts : List Step). answersInMemory ml? ts (inMemory w)) e ∙ sym (b .1),
-    )
+session-unique ml? = steps-determine (stepInMemory ml?) (Chain ml?) (λ w c cs k. (follows ml? w c (k .0), k .1))

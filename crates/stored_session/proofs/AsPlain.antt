@@ -1,11 +1,11 @@
 -- Editing a stored read is turning it into read orientation, editing it as the plain session does, and turning back. This is a law between the two codes'
 -- contracts: a call of each, on rows that hold the same read.
 -- Assumes nothing.
-use mathlib.Core.Path.{_≡_, refl, sym, ap, _∙_, subst}
+use mathlib.Core.Path.{_≡_, sym, ap, _∙_, subst}
 use Prim.Native.Nat.{ℕ}
 use native.Mathlib.Omega.{arith}
 use mathlib.Core.Bool.{Bool, true, false, cond}
-use mathlib.Core.List.{List, [], _∷_}
+use mathlib.Core.List.{List}
 use lib.ListN.{take}
 use lib.Seq.{take-all}
 use Rattle.lent.specs.Answers.{isDone}
@@ -46,14 +46,10 @@ module _ (ml? : Bool) where
 
   plain-runs : (cs : List Call) (w : Rows) → memory.In-order ml? (inMemory w) → Chain ml? w cs
       → (heldIn (inMemory (atEnd w cs)) ≡ run ml? (stepsOf cs) (heldIn (inMemory w))) × (numbersOf cs ≡ answers ml? (stepsOf cs) (heldIn (inMemory w)))
-  unfolding run answers
-  plain-runs [] w i k = (refl, refl)
-  plain-runs (c ∷ cs) w i k =
-      let f = edits w c i (k .0) in
-      let rest = plain-runs cs (leftBy w c) (f .order-then) (k .1) in (
-        rest .0 ∙ ap (run ml? (stepsOf cs)) (f .held-then),
-        λ j. f .number-then j ∷ (rest .1 ∙ ap (answers ml? (stepsOf cs)) (f .held-then)) j,
-      )
+  plain-runs cs w i k =
+      let r = plain.chain-runs ml? cs w k in
+      let f = memory.run-follows ml? (stepsOf cs) (inMemory w) i in
+      (ap heldIn (r .0) ∙ f .0, r .1 ∙ f .1)
 
 -- ---- a call of each
 

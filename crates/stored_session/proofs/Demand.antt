@@ -8,15 +8,16 @@ use native.Mathlib.Omega.{arith}
 use mathlib.Core.Bool.{Bool}
 use mathlib.Core.List.{List, [], _∷_, map}
 use Rattle.lent.proofs.Outcome.{on-done-inv}
-use Rattle.lent.specs.Outcome.{Outcome, done, numberOf, refused}
+use Rattle.lent.specs.Outcome.{done, numberOf}
 use Rattle.packed.proofs.Rows.{Bytes}
 use Rattle.packed.specs.Stored.{stepInRead}
 use Rattle.reading.specs.Calls.{countsOf}
 use Rattle.reading.specs.declared.Reading.the-variants as reading
+use Rattle.samtags.proofs.Memory.{unchanged}
 use Rattle.samtags.proofs.SessionMeaning.{refused-steps, session-meaning}
 use Rattle.samtags.specs.Meaning.{afterSteps, answersTo, isRefusal, leftOfListing, leftOfSeq, opening, refusedSteps}
 use Rattle.samtags.specs.Reading.{lists}
-use Rattle.samtags.specs.Session.{Held, Memory, Step, afterStep, answers, run, stepped}
+use Rattle.samtags.specs.Session.{Held, afterStep, answers, run, stepped}
 use Rattle.samtags.specs.Spots.{Listing}
 use Rattle.session.specs.Chain.{atEnd, leftBy, numbersOf, stepsOf}
 use Rattle.session.specs.Contracts.{Call, Rows, inMemory}
@@ -26,15 +27,13 @@ use Rattle.stored_session.proofs.Held.{In-order, opened-in-order, step-
 use Rattle.stored_session.specs.Chain.{ChainStored, readIn, stepsInRead}
 use Rattle.stored_session.specs.Contracts.{MeetsStored, OpensStored}
 use Rattle.stored_steps.specs.Steps.{heldInRead, openStored, stepStored}
-use Rattle.session.proofs.Demand.{same-rows}
+use Rattle.session.proofs.Demand.{Does, same-rows, steps-determine}
 
 -- ---- call by call
 
 module _ (reverse ml? : Bool) where
   -- a call does to memory what its step does
-  pub follows : (w : Rows) (c : Call) → MeetsStored reverse ml? w c
-      → (inMemory (leftBy w c) ≡ afterStep (inMemory w) (stepStored reverse ml? (c .asked) (inMemory w)))
-      × (numberOf (stepSays (c .answered)) ≡ numberOf (stepStored reverse ml? (c .asked) (inMemory w)))
+  pub follows : (w : Rows) (c : Call) → MeetsStored reverse ml? w c → Does (stepStored reverse ml?) w c
   follows w c e = by-answer (inMemory w) (w .lengths) refl (c .answered) (stepStored reverse ml? (c .asked) (inMemory w)) (c .seq) (c .mm) (c .ml) e
 
   -- a call does to what the rows hold in read orientation what the plain step does
@@ -113,39 +112,12 @@ pub refused-changes-nothing : (reverse ml? : Bool) (w : Rows) (c : Call) → Mee
     → leftBy w c ≡ w
 refused-changes-nothing reverse ml? w c e l =
     let f = follows reverse ml? w c e in
-    same-rows (leftBy w c) w (f .0 ∙ by-outcome (stepStored reverse ml? (c .asked) (inMemory w)) (omega (arith, l, f .1)))
-  where
-    by-outcome : (o : Outcome Memory) → 0 < numberOf o → afterStep (inMemory w) o ≡ inMemory w
-    by-outcome (refused r) h = refl
-    by-outcome (done n) h = let z : ⊥ = omega arith in absurd z
+    same-rows (leftBy w c) w (f .0 ∙ unchanged (inMemory w) (stepStored reverse ml? (c .asked) (inMemory w)) (omega (arith, l, f .1)))
 
 -- ---- the steps determine the session
-
--- steps one after the other, each on the memory that the last one left
-abbrev runs : Bool → Bool → List Step → Memory → Memory
-runs reverse ml? [] m = m
-runs reverse ml? (t ∷ ts) m = runs reverse ml? ts (afterStep m (stepStored reverse ml? t m))
-
-abbrev numbers : Bool → Bool → List Step → Memory → List ℕ
-numbers reverse ml? [] m = []
-numbers reverse ml? (t ∷ ts) m = numberOf (stepStored reverse ml? t m) ∷ numbers reverse ml? ts (afterStep m (stepStored reverse ml? t m))
-
-in-memory : (reverse ml? : Bool) (cs : List Call) (w : Rows) → ChainStored reverse ml? w cs
-    → (inMemory (atEnd w cs) ≡ runs reverse ml? (stepsOf cs) (inMemory w)) × (numbersOf cs ≡ numbers reverse ml? (stepsOf cs) (inMemory w))
-in-memory reverse ml? [] w k = (refl, refl)
-in-memory reverse ml? (c ∷ cs) w k =
-    let f = follows reverse ml? w c (k .0) in
-    let rest = in-memory reverse ml? cs (leftBy w c) (k .1) in (
-      rest .0 ∙ ap (runs reverse ml? (stepsOf cs)) (f .0),
-      λ j. f .1 j ∷ (rest .1 ∙ ap (numbers reverse ml? (stepsOf cs)) (f .0)) j,
-    )
 
 -- Two lists of calls that ask for the same steps on the same rows leave the same rows and give the same numbers.
 pub session-unique : (reverse ml? : Bool) (w : Rows) (cs ds : List Call) → stepsOf cs ≡ stepsOf ds → ChainStored reverse ml? w cs
     → ChainStored reverse ml? w ds → (atEnd w cs ≡ atEnd w ds) × (numbersOf cs ≡ numbersOf ds)
-session-unique reverse ml? w cs ds e k l =
-    let a = in-memory reverse ml? cs w k in
-    let b = in-memory reverse ml? ds w l in (
-      same-rows (atEnd w cs) (atEnd w ds) (a .0 ∙ ap (λ (ts : List Step). runs reverse ml? ts (inMemory w)) e ∙ sym (b .0)),
-      a .1 ∙ ap (λ (ts : List Step). numbers reverse ml? ts (inMemory w)) e ∙ sym (b .1),
-    )
+session-unique reverse ml? =
+    steps-determine (stepStored reverse ml?) (ChainStored reverse ml?) (λ w c cs k. (follows reverse ml? w c (k .0), k .1))
