@@ -1,0 +1,4 @@
+pub mod PlanIs
+pub mod Agreement
+pub mod Removal
+pub mod EditedLaws

@@ -1,0 +1,3 @@
+pub mod FateLaws
+pub mod StaleLaws
+pub mod OpeningLaws

@@ -1,0 +1,7 @@
+pub mod SizeLaws
+pub mod FieldsLaws
+pub mod SpotLaws
+pub mod LocalLaws
+pub mod Inverse
+pub mod Kept
+pub mod Examples

@@ -1,0 +1,3 @@
+pub mod Bam
+pub mod Fields
+pub mod Spots

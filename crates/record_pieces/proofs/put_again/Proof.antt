@@ -1,0 +1,74 @@
+-- `put_again`: the name and the type, the values by a walk of their own, and their count.
+-- Assumes nothing.
+use Prim.Native.Nat.{ℕ, _+_, _-_, _≤_}
+use mathlib.Core.Bool.{true}
+use native.Mathlib.Omega.{arith}
+use borrow.Author.Needs.{needs}
+use Rattle.record_pieces.proofs.PieceLaws.{values-first, values-put}
+use Rattle.record_pieces.specs.Pens.{valuesIn}
+use Rattle.record_tags.specs.Plans.{byWindow}
+use Rattle.record_pieces.proofs.put_again.Statement.{statement}
+use Rattle.record_pieces.proofs.put_again.Tie as tie
+
+add-put-bytes : tie.Need-add-put-bytes
+add-put-bytes c = search needs
+
+sub-put-bytes : tie.Need-sub-put-bytes
+sub-put-bytes c = search needs
+
+part-put-bytes-start : tie.Need-part-put-bytes-start
+part-put-bytes-start c = search needs
+
+part-put-bytes-end : tie.Need-part-put-bytes-end
+part-put-bytes-end c = search needs
+
+put-bytes-requires : tie.Need-put-bytes-requires
+put-bytes-requires c κs = search needs
+
+add-put-values : tie.Need-add-put-values
+add-put-values c = search needs
+
+put-values-requires : tie.Need-put-values-requires
+put-values-requires c κs = search needs
+
+put-word-requires : tie.Need-put-word-requires
+put-word-requires c κs = search needs
+
+add-result : tie.Need-add-result
+add-result c = search needs
+
+add-result-2 : tie.Need-add-result-2
+add-result-2 c = search needs
+
+same-length : tie.Need-same-length
+same-length c = search needs
+
+returns : tie.Need-returns
+returns c =
+    let s = c .before .before .before .before .before .before .before .before .before .before .before .before .before .before .before .before .before .before .before .before in
+    let a = s .args in
+    let p = c .before .before .before .before .before .before .before .before .before .before .put-bytes in
+    let v = c .before .before .before .before .before .before .put-values in
+    let w = c .before .before .put-word in
+    let o = byWindow (a .lo) (a .after .now) (a .marks .now) (a .seq .now) true (a .mm .now) (a .ml .now) in
+    let t = values-put o (v .result) (p .result + 4) (p .last .0) (v .last .1 .1 .1 .1 .1 .1 .0) (s .pre .1) (v .ensures .0) in
+    λ (size : ℕ) (h : 4 ≤ size).
+    values-first (a .bam .now) (a .out .now) (p .last .0) (v .last .1 .1 .1 .1 .1 .1 .0) (w .last .0) (a .at) size (a .end) (p .result) (a .at + 4 - a .at) h (omega arith)
+    (p .ensures .0) (p .ensures .1) (valuesIn o) (v .result) (p .result + 4 + v .result) (omega arith) (t .0) (t .1) (w .ensures) (omega (arith, t .0))
+
+pub put-again-spec : {M : Type 1} → statement M
+put-again-spec =
+    tie.close
+    (tie.spec
+    add-put-bytes
+    sub-put-bytes
+    part-put-bytes-start
+    part-put-bytes-end
+    put-bytes-requires
+    add-put-values
+    put-values-requires
+    put-word-requires
+    add-result
+    add-result-2
+    same-length
+    returns)

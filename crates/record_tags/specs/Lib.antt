@@ -1,0 +1,4 @@
+pub mod Values
+pub mod Changes
+pub mod Plans
+pub mod Records
