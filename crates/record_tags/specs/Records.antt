@@ -54,12 +54,12 @@ abbrev pub windowIn : Option ℕ → List ℕ → List ℕ → Option ℕ
 windowIn none before seq = none
 windowIn (some lo) before seq = cond (leb lo (length before) && liesIn seq (drop lo before)) (some lo) none
 
--- the start in read orientation; it is known only if the read was stored in the same direction
+abbrev pub sameDirection : Bool → Bool → Bool
+sameDirection reverse before-reverse = cond reverse before-reverse (not before-reverse)
+
+-- the start in read orientation; it is known only if the read was stored in the same direction before
 abbrev pub startOf : Bool → Bool → ℕ → ℕ → Option ℕ → Option ℕ
-startOf reverse before-reverse n k start = cond (eqBool reverse before-reverse) (startInRead reverse n k start) none
-  where
-    eqBool : Bool → Bool → Bool
-    eqBool a b = cond a b (not b)
+startOf reverse before-reverse n k start = cond (sameDirection reverse before-reverse) (startInRead reverse n k start) none
 
 abbrev pub orRemoval : Option ℕ → List Field → (ℕ → List Field) → List Field
 orRemoval none fs f = changed removal fs
