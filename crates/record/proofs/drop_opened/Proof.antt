@@ -1,81 +1,77 @@
+-- `drop_opened` lends the short rows if SEQ is short, and else the long ones.
+-- Assumes nothing.
+use mathlib.Core.Path.{refl}
+use native.Mathlib.Omega.{arith}
+use Rattle.record.proofs.RecordLaws.{bases-few, bases-short}
 use borrow.Author.Needs.{needs}
 use Rattle.record.proofs.drop_opened.Statement.{statement}
 use Rattle.record.proofs.drop_opened.Tie as tie
-use Rattle.record.proofs.drop_opened.Reads as reads
-use Rattle.record.proofs.drop_opened.Lts as lts
-use Rattle.changing.proofs.few_marks.Reads as few-marks-reads
-use Rattle.changing.proofs.no_marks.Reads as no-marks-reads
-use Rattle.record_steps.proofs.drop_with.Reads as drop-with-reads
 
--- src/lib.rt:127:23
 few-marks-requires : tie.Need-few-marks-requires
 few-marks-requires c κs = search needs
 
--- src/lib.rt:128:25
 few-marks-requires-2 : tie.Need-few-marks-requires-2
 few-marks-requires-2 c κs = search needs
 
--- src/lib.rt:129:24
 few-marks-requires-3 : tie.Need-few-marks-requires-3
 few-marks-requires-3 c κs = search needs
 
--- src/lib.rt:136:13
 slice-aggregate-drop-with : tie.Need-slice-aggregate-drop-with
 slice-aggregate-drop-with c = search needs
 
--- src/lib.rt:137:13
 slice-aggregate-drop-with-2 : tie.Need-slice-aggregate-drop-with-2
 slice-aggregate-drop-with-2 c = search needs
 
--- src/lib.rt:138:13
 slice-aggregate-drop-with-3 : tie.Need-slice-aggregate-drop-with-3
 slice-aggregate-drop-with-3 c = search needs
 
--- src/lib.rt:130:9
 drop-with-requires : tie.Need-drop-with-requires
-drop-with-requires c κs = ?
+drop-with-requires c κs =
+    let t = c .before .before .before .before .before .before .before .before .before .before .before .before in
+    let a = t .args in
+    let n = bases-few (a .bam .now) 0 (a .ats .now) (a .sizes .now) (a .head) (t .pre .0) (c .before .before .before .before .before .before .before .if1 .taken) in
+    let one = c .before .before .before .before .before .before .few-marks .ensures .0 in
+    let two = c .before .before .before .before .before .few-marks2 .ensures in
+    let size = two .0 in
+    (t .pre .0, (t .pre .1 .0, t .pre .1 .1, t .pre .1 .2, omega (arith, n, one), omega (arith, n, size), (refl, two .1)))
 
--- src/lib.rt:130:9
 same-length : tie.Need-same-length
 same-length c = search needs
 
--- src/lib.rt:130:9
 returns : tie.Need-returns
 returns c = search needs
 
--- src/lib.rt:142:19
 no-marks-requires : tie.Need-no-marks-requires
 no-marks-requires c κs = search needs
 
--- src/lib.rt:143:21
 no-marks-requires-2 : tie.Need-no-marks-requires-2
 no-marks-requires-2 c κs = search needs
 
--- src/lib.rt:144:20
 no-marks-requires-3 : tie.Need-no-marks-requires-3
 no-marks-requires-3 c κs = search needs
 
--- src/lib.rt:151:9
 slice-aggregate-drop-with-4 : tie.Need-slice-aggregate-drop-with-4
 slice-aggregate-drop-with-4 c = search needs
 
--- src/lib.rt:152:9
 slice-aggregate-drop-with-5 : tie.Need-slice-aggregate-drop-with-5
 slice-aggregate-drop-with-5 c = search needs
 
--- src/lib.rt:153:9
 slice-aggregate-drop-with-6 : tie.Need-slice-aggregate-drop-with-6
 slice-aggregate-drop-with-6 c = search needs
 
--- src/lib.rt:145:5
 drop-with-requires-2 : tie.Need-drop-with-requires-2
-drop-with-requires-2 c κs = ?
+drop-with-requires-2 c κs =
+    let t = c .before .before .before .before .before .before .before .before .before .before .before .before in
+    let a = t .args in
+    let n = bases-short (a .bam .now) 0 (a .ats .now) (a .sizes .now) (a .head) (t .pre .0) in
+    let one = c .before .before .before .before .before .before .no-marks .ensures .0 in
+    let two = c .before .before .before .before .before .no-marks2 .ensures in
+    let size = two .0 in
+    (t .pre .0, (t .pre .1 .0, t .pre .1 .1, t .pre .1 .2, omega (arith, n, one), omega (arith, n, size), (refl, two .1)))
 
--- src/lib.rt:113:1
 same-length-2 : tie.Need-same-length-2
 same-length-2 c = search needs
 
--- src/lib.rt:113:1
 returns-2 : tie.Need-returns-2
 returns-2 c = search needs
 
