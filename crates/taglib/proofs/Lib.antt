@@ -4,11 +4,11 @@ pub mod Chosen
 pub mod DuplexCited
 pub mod EvidenceCited
 pub mod HandedStored
+pub mod ModeNumbers
 pub mod Numbers
 pub mod PatternCited
 pub mod ReadingCited
 pub mod Refused
-pub mod Returned
 pub mod RewritingCited
 pub mod SessionCited
 pub mod StoredReadingCited

@@ -35,13 +35,14 @@ use Rattle.taglib.specs.DuplexContracts.{DuplexesInC, duplexesAs}
 use Rattle.taglib.specs.EvidenceContracts.{AnnotatesInC, GatesInC, GivesCountsInC, RestoresInC, TruncatesInC}
 use Rattle.taglib.specs.PatternContracts.{TellsEnabledInC}
 use Rattle.taglib.specs.ReadingContracts.{ChecksTagInC, ReadsCallsInC, TalliesInC}
-use Rattle.taglib.specs.Returns.{Returns}
+use Rattle.telling.specs.Returns.{Returns}
 use Rattle.taglib.specs.RewritingContracts.{CutsTagInC, DropsFromTagInC, MasksTagInC}
 use Rattle.taglib.specs.SessionContracts.{OpensInC, StepsInC, sessionIn}
 use Rattle.taglib.specs.StoredReadingContracts.{ChecksStoredInC, ReadsStoredInC, TalliesStoredInC, TurnsInC, UnpacksInC}
 use Rattle.taglib.specs.StoredRewritingContracts.{CutsStoredInC, DropsStoredInC, MasksStoredInC}
 use Rattle.taglib.specs.StoredSessionContracts.{OpensStoredInC, StepsStoredInC}
-use Rattle.taglib.proofs.Returned.{mode-only, only-more, returned-filled, returned-only, returned-written}
+use Rattle.taglib.proofs.ModeNumbers.{mode-only}
+use Rattle.telling.proofs.Returned.{only-more, returned-filled, returned-only, returned-written}
 use Rattle.alignment.proofs.Numbers.{fetch-ref-bases-at-positions-numbers, query-to-ref-positions-numbers}
 use Rattle.annotation.proofs.Numbers.{annotate-simplex-methylation-numbers, converted-counts-numbers, gate-to-informative-numbers, restore-unconverted-bases-numbers, truncate-numbers, unconverted-counts-numbers}
 use Rattle.duplex.proofs.Numbers.{duplex-tags-only}

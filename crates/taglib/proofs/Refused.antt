@@ -36,7 +36,7 @@ use Rattle.taglib.specs.SessionContracts.{OpensInC, StepsInC, sessionIn}
 use Rattle.taglib.specs.StoredReadingContracts.{ChecksStoredInC, ReadsStoredInC, TalliesStoredInC, TurnsInC, UnpacksInC}
 use Rattle.taglib.specs.StoredRewritingContracts.{CutsStoredInC, DropsStoredInC, MasksStoredInC}
 use Rattle.taglib.specs.StoredSessionContracts.{OpensStoredInC, StepsStoredInC}
-use Rattle.taglib.proofs.Returned.{not-returned, told-kept}
+use Rattle.telling.proofs.Returned.{not-returned, told-kept}
 
 pub aql-mode-is-enabled-refused : (mode enabled r enabled′ : ℕ) → TellsEnabledInC mode enabled r enabled′ → eqb r 0 ≡ false → enabled′ ≡ enabled
 aql-mode-is-enabled-refused mode enabled r enabled′ h z =

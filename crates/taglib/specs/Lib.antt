@@ -6,7 +6,6 @@ pub mod Evidences
 pub mod PatternContracts
 pub mod Patterns
 pub mod ReadingContracts
-pub mod Returns
 pub mod RewritingContracts
 pub mod SessionContracts
 pub mod StoredReadingContracts

@@ -1,3 +1,4 @@
 pub mod Handed
 pub mod HandedReadings
 pub mod HandedTags
+pub mod Returned

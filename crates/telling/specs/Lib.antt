@@ -1,2 +1,3 @@
+pub mod Returns
 pub mod Starts
 pub mod Told

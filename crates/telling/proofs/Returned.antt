@@ -14,10 +14,8 @@ use Rattle.lent.specs.Outcome.{Outcome, refused, done, numberOf, onDone, says}
 use Rattle.lent.specs.declared.Written.{Written}
 use Rattle.lent.specs.declared.Written.the-variants as written
 use Rattle.lent.proofs.Answers.{answers}
-use Rattle.lent.proofs.Tests.{by-test}
-use Rattle.modes.specs.Modes.{modeOf}
+use Rattle.telling.specs.Returns.{Returns}
 use Rattle.telling.specs.Told.{told}
-use Rattle.taglib.specs.Returns.{Returns}
 use Rattle.samtags.proofs.Text.{among-every}
 
 module _ {A : Type 0} where
@@ -36,13 +34,6 @@ module _ {A : Type 0} where
   pub only-more : (ns ms : List ℕ) (o : Outcome A) → every (among ms) ns ≡ true → refusesOnly ns o ≡ true → refusesOnly ms o ≡ true
   only-more ns ms (refused r) h k = among-every (among ms) ns (r .0) h k
   only-more ns ms (done a) h k = refl
-
--- an unknown chemistry is refused with 13
-pub mode-only : (ns : List ℕ) (n : ℕ) → among ns 13 ≡ true → refusesOnly ns (modeOf n) ≡ true
-mode-only ns n thirteen =
-    by-test (eqb n 0) (λ e. rw e refl) (λ e. rw e
-    (by-test (eqb n 1) (λ f. rw f refl) (λ f. rw f
-    (by-test (eqb n 2) (λ g. rw g refl) (λ g. rw g thirteen)))))
 
 -- ---- from what is known of a call's answers
 
