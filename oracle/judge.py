@@ -28,7 +28,7 @@ import time
 import compare
 import freeze
 import generate
-import model
+import models
 import rust
 import shrink
 
@@ -76,7 +76,7 @@ def answers_of(command, requests, turn=0):
 
 
 def model_part(requests):
-    return [model.answer(line) for line in requests]
+    return [models.answer(line) for line in requests]
 
 
 def model_answers(requests):
@@ -94,7 +94,7 @@ def unlike(requests, given, wanted):
 
 def given_and_wanted(command, line):
     """A wrong answer, who judges it, and what that judge says; None if every turn answers rightly."""
-    wanted = model.answer(line)
+    wanted = models.answer(line)
     given = one_part(command, [line] * MANY_TURNS, 0)
     for answer in given:
         if answer != wanted:
