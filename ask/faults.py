@@ -109,6 +109,25 @@ FAULTS = [
      "aql_stored_tally(PACKED(s), reverse, ", "aql_stored_tally(PACKED(s), reverse & 0, "),
     ("a turned read reads one byte past its row", "ask/stored.c",
      "    if (answered(aql_turn(", "    s.bases += *(volatile uint8_t *)(s.row->bytes + s.row->n) & 0;\n    if (answered(aql_turn("),
+    ("a refused call on a record has written", "ask/records.c",
+     "    if (!answered(number))\n", "    if (number && r.out->n)\n        r.out->bytes[r.out->n - 1] ^= 1;\n    if (!answered(number))\n"),
+    ("a refused call on a record has written whether a tag went", "ask/records.c",
+     "    if (!answered(number))\n", "    as_size(r.went)[0] ^= number != 0;\n    if (!answered(number))\n"),
+    ("a call on a record writes past its answer, within its row", "ask/records.c",
+     "    put_bytes(r.out, written(r.out_len, 0));",
+     "    put_bytes(r.out, written(r.out_len, 0));\n    if (r.out->filled < r.out->n)\n        r.out->bytes[r.out->filled] ^= 1;"),
+    ("a call on a record writes one byte past its row", "ask/records.c",
+     "    if (!answered(number))\n", "    r.out->bytes[r.out->n] ^= 1;\n    if (!answered(number))\n"),
+    ("a call on a record reads one byte past the record", "ask/records.c",
+     "    if (!answered(number))\n", "    number ^= *(volatile uint8_t *)(r.given->bytes + r.given->n) & 0;\n    if (!answered(number))\n"),
+    ("a call on a record changes the record that it reads", "ask/records.c",
+     "    if (!answered(number))\n", "    if (r.given->n)\n        r.given->bytes[0] ^= 1;\n    if (!answered(number))\n"),
+    ("a record's row has one byte less room", "ask/records.c",
+     "U8((r).out), as_size", "as_u8((r).out), (r).out->n - ((r).out->n > 0), as_size"),
+    ("a cut record is not told that it was reverse", "ask/records.c",
+     "U8(before), before_reverse, known", "U8(before), before_reverse & 0, known"),
+    ("a cut record is told a start that is not known", "ask/records.c",
+     "before_reverse, known, start", "before_reverse, known | 1, start"),
 ]
 
 
@@ -193,7 +212,7 @@ def loaded(command):
         judge.ask_command = lambda: [*command[:-1], os.path.join(work, "asked")]
         said = io.StringIO()
         with contextlib.redirect_stdout(said):
-            status = judge.load(argparse.Namespace(seed=1, requests=20_000, sample=200, table=False))
+            status = judge.load(argparse.Namespace(seed=1, requests=20_000, sample=200, table=False, calls=judge.generate.CALLS))
     found = [int(size.replace(",", "")) for size in re.findall(r"shrunk from [\d,]+ characters to ([\d,]+)", said.getvalue())]
     return status == 1 and bool(found) and min(found) <= MOST_CHARACTERS
 

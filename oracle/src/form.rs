@@ -2,8 +2,8 @@
 
 use crate::protocol::{absent_or, byte, is_bytes, list, number, signed, small, yes_or_no};
 use Kind::{
-    Aligned, BaseCount, Bases, Before, Counts, CutStart, Flags, GivenValues, Informative, Length, Lengths, Mode,
-    Packed, Pattern, Place, Places, Reads, Record, RecordRoom, Reference, ReferenceRow, SessionStep,
+    Aligned, BaseCount, Bases, Before, Counts, CutStart, Flags, GivenValues, Informative, Length, Lengths,
+    Mode, Packed, Pattern, Place, Places, Reads, Record, RecordRoom, Reference, ReferenceRow, SessionStep,
     SignedPlaces, Start, Step, Text, Values, Way, Window, Words, YesNo,
 };
 

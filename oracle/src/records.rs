@@ -20,7 +20,8 @@ const FIELDS: &str = "15 optional fields that do not parse can't be put to the R
 const ARRAY_OF_A: &str = "15 an array of subtype A, which the Rust's size table takes";
 const LONG: &str = "1 a record longer than the domain allows, which the Rust takes";
 const NO_SPACE: &str = "12 no room: the record that the Rust leaves passes the room";
-const PAST_END: &str = "a drop past the end of a reverse record, which the Rust takes for the read's first base";
+const PAST_END: &str =
+    "a drop past the end of a reverse record, which the Rust takes for the read's first base";
 const HIGH: &str = "a byte above 127 in a record's MM, am or bm, which the Rust accepts";
 
 const FIXED: usize = 32;
@@ -220,7 +221,8 @@ pub fn verdict(request: &Request, rust: &str, answer: &str) -> Verdict {
 
 impl Asked {
     fn is_long(&self, parts: &Parts, fields: &[Range<usize>]) -> bool {
-        let values = first(fields, &self.record, b"ML").filter(|ml| self.record[ml.start + 2..].starts_with(b"BC"));
+        let values =
+            first(fields, &self.record, b"ML").filter(|ml| self.record[ml.start + 2..].starts_with(b"BC"));
         parts.bases > MOST_BASES
             || self.before().len() > MOST_BASES
             || texts(fields, &self.record).iter().any(|text| text.len() > MOST_BYTES)

@@ -4,8 +4,8 @@
 //! field of a name is the one that is found, removed or changed. A changed field stays where it is. An integer is
 //! written as type `i`.
 
-use crate::fields::{aux_data_slice, tag_value_size};
 use crate::SamTag;
+use crate::fields::{aux_data_slice, tag_value_size};
 use std::ops::Range;
 
 const NAME_AND_TYPE: usize = 3;
