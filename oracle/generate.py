@@ -21,7 +21,7 @@ import models
 import record_requests
 import stated
 from pieces import (
-    HEADERS, STORED_HEADERS, all_listed, fitting_ml, letters, masked_at, near_mls, pick_bytes, random_seq, random_tag, rows_over, short_texts, some_places,
+    HEADERS, STORED_HEADERS, all_listed, letters, masked_at, near_mls, pick_bytes, random_seq, random_tag, rows_over, short_texts, some_places,
     stored, stored_seq, subsets, words_over,
 )
 

@@ -9,7 +9,8 @@ import bam
 import lines as p
 import model
 import models
-from pieces import STORED_HEADERS, U64, all_listed, masked_at, pick_bytes, random_tag, some_places, stored_seq
+import records
+from pieces import STORED_HEADERS, U64, all_listed, letters, masked_at, pick_bytes, random_tag, some_places, stored_seq
 
 REVERSE = 0x10
 U32 = 2**32 - 1
@@ -57,12 +58,11 @@ def random_mn(rng, length):
 
 
 def random_fields(rng, seq, length, headers):
-    """Fields of a tag that fits `seq`; MN states the length."""
+    """Fields of tags that mostly fit `seq`, in any order; MN states the length. Now and then one of the five names is there twice."""
     mm, ml = random_tag(rng, seq, headers)
-    found = []
-    if rng.random() < 0.93:
-        found.append(random_mm(rng, mm))
-        found += [] if ml is None else [random_ml(rng, ml)]
+    found = [random_mm(rng, mm)] if rng.random() < 0.93 else []
+    if ml is not None:
+        found.append(random_ml(rng, ml))
     if rng.random() < 0.5:
         found.append(random_mn(rng, length))
     for name in (b"am", b"bm"):
@@ -83,8 +83,7 @@ def random_record(rng, after, reverse, fields):
     flag = rng.choice((0, 0x4, 0x63, 0x800, 0xF0F)) & ~REVERSE | (REVERSE if reverse else 0)
     name = rng.choice((b"r\0", b"r\0", b"", b"read/1\0", b"no end"))
     words = [rng.randrange(2**32) for _ in range(rng.choice((0, 0, 1, 2, 5)))]
-    letters = model.turned(after) if reverse else after
-    return bam.record(letters, *fields, flag=flag, name=name, words=words, spare=rng.randrange(16), quality=rng.randrange(256))
+    return bam.record(as_stored(after, reverse), *fields, flag=flag, name=name, words=words, spare=rng.randrange(16), quality=rng.randrange(256))
 
 
 # ---- Damage --------------------------------------------------------------------------------------
@@ -252,9 +251,9 @@ def short_field_lists():
     for field in ODD_FIELDS:
         yield [*five, field]
         yield [field, *five]
-    for twice in itertools.product(five, [*five, b"MMZ\0", b"MLBC\0\0\0\0", b"MNC\x04", b"MNZ5\0", b"amA!", b"bmZC+m?,0;\0"]):
-        yield [*five, twice[1]]
-        yield [twice[1], twice[0], *five]
+    for again in (*five, b"MMZ\0", b"MLBC\0\0\0\0", b"MNC\x04", b"MNZ5\0", b"amA!", b"bmZC+m?,0;\0"):
+        yield [*five, again]
+        yield from ([again, other, *five] for other in five)
 
 
 def short_records(after):
@@ -276,10 +275,19 @@ def prefixes(record):
 WHOLE = bam.record(b"CCACG", SHORT_MM[1], b"XXBi\1\0\0\0\1\2\3\4", SHORT_ML[1], SHORT_MN[2], b"XXf\0\0\0\0", SHORT_TEXT[1], words=(80,))
 
 
+def complements():
+    """Every byte as the one base before a mask of a reverse record, with a call on its complement, and on the byte itself."""
+    for letter in letters(bytes(range(256))):
+        for base in dict.fromkeys((letter.upper(), letter.translate(records.COMPLEMENTS).upper(), b"A")):
+            if base != b"\0":
+                yield p.record_mask(bam.record(b"N", bam.text(b"MM", base + b"+m?,0;"), flag=REVERSE), AMPLE, letter)
+
+
 def short_mask():
     for after in (b"CNACG", READ):
         for reverse, record, room in short_records(after):
             yield p.record_mask(record, room, as_stored(READ, reverse))
+    yield from complements()
     for record in prefixes(WHOLE):
         yield p.record_mask(record, AMPLE, b"CCACC")
 
