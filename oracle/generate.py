@@ -21,8 +21,8 @@ import models
 import record_requests
 import stated
 from pieces import (
-    HEADERS, STORED_HEADERS, all_listed, letters, masked_at, near_mls, pick_bytes, random_seq, random_tag, rows_over, short_texts, some_places,
-    stored, stored_seq, subsets, words_over,
+    HEADERS, ROW_LENGTHS, STORED_HEADERS, all_listed, letters, listed_at_ends, many_groups, masked_at, near_mls, pick_bytes, places_at_ends, random_seq,
+    random_tag, rows_over, short_texts, some_places, stored, stored_seq, subsets, words_over,
 )
 
 U32, U64, I64 = 2**32 - 1, 2**64 - 1, 2**63 - 1
@@ -409,11 +409,6 @@ def large_tags():
     yield b"C+" + b"m" * 65_535 + b";", None, b"C"
 
 
-def many_groups(count):
-    """`count` groups without an entry, on the longest SEQ: the Rust searches SEQ for each group."""
-    return b"C+;" * count, None, b"C" * 16_000
-
-
 def short_calls():
     for mm in short_texts():
         for ml in near_mls(mm):
@@ -520,21 +515,6 @@ def boundary_drop():
     yield p.drop(b"C+m?,0;", b"\1", b"C", [0] * 65_537)
     yield p.drop(b"C+m?,0;", b"\1", b"C", [0] * 65_538)
     yield p.drop(*many_groups(21_845), [3])
-
-
-# A call takes one row for at most 1,024 bases, and another one for more.
-ROW_LENGTHS = (1_024, 1_025, 1_023)
-
-
-def listed_at_ends(length):
-    """A tag with calls on two bases at each end of a SEQ of all sixteen letters, C only at the ends."""
-    seq = b"CC" + (model.LETTERS.replace(b"C", b"") * 70)[: length - 4] + b"CC"
-    return b"C+m?,0,0,0,0;N+n?,0,%d;" % (length - 2), b"\1\x7f\x80\xff\2\x81", seq
-
-
-def places_at_ends(length):
-    """Places of which a wrong row would miss some, or take one more: at the end, at both ends, and past the end."""
-    return [length - 1], [0, length - 2], [length, length - 1, 1], [length]
 
 
 def rows_drop():
@@ -1043,6 +1023,7 @@ ROWS = {
     "K1.PDROP": rows_stored_drop,
     "K1.PCUT": rows_stored_cut,
     "K1.PSES": rows_stored_session,
+    **record_requests.ROWS,
 }
 CALLS = list(SOURCES)
 # These two calls work in place, so the lists lend them no room.

@@ -116,6 +116,21 @@ def all_listed(length):
     return b"C+m?" + b",0" * length + b";", (bytes(range(256)) * 63)[:length], b"C" * length
 
 
+def many_groups(count):
+    """`count` groups without an entry, on the longest SEQ: the Rust searches SEQ for each group."""
+    return b"C+;" * count, None, b"C" * 16_000
+
+
+# A call takes one row for at most 1,024 bases, and another one for more.
+ROW_LENGTHS = (1_024, 1_025, 1_023)
+
+
+def listed_at_ends(length):
+    """A tag with calls on two bases at each end of a SEQ of all sixteen letters, C only at the ends."""
+    seq = b"CC" + (model.LETTERS.replace(b"C", b"") * 70)[: length - 4] + b"CC"
+    return b"C+m?,0,0,0,0;N+n?,0,%d;" % (length - 2), b"\1\x7f\x80\xff\2\x81", seq
+
+
 # ---- Places, and stored reads --------------------------------------------------------------------
 
 
@@ -132,6 +147,11 @@ def some_places(rng, length):
     if rng.random() < 0.05:
         places.append(rng.choice((U64, 2**63, 2**32, 65_536)))
     return places
+
+
+def places_at_ends(length):
+    """Places of which a wrong row would miss some, or take one more: at the end, at both ends, and past the end."""
+    return [length - 1], [0, length - 2], [length, length - 1, 1], [length]
 
 
 def stored(seq, reverse, spare=0):

@@ -10,12 +10,16 @@ import lines as p
 import model
 import models
 import records
-from pieces import STORED_HEADERS, U64, all_listed, letters, masked_at, pick_bytes, random_tag, some_places, stored_seq
+from pieces import (
+    ROW_LENGTHS, STORED_HEADERS, U64, all_listed, letters, listed_at_ends, many_groups, masked_at, pick_bytes, places_at_ends, random_tag, some_places,
+    stored_seq,
+)
 
 REVERSE = 0x10
 U32 = 2**32 - 1
 AMPLE = 1_000_000
-DROPPABLE = [header for header in STORED_HEADERS if header.endswith(b"?")]
+USUAL = [b"C+m?", b"C+m?", b"C+mh?", b"G-m?", b"N+n?", b"C+h?", b"C+76792?"]
+HEADER_LISTS = [STORED_HEADERS, USUAL, USUAL, [*USUAL, b"C+m.", b"C+m", b"G-m.", b"N+ab"]]
 INTEGERS = "cCsSiI"
 
 # ---- Random fields -------------------------------------------------------------------------------
@@ -144,7 +148,7 @@ def random_read(rng):
     chance = rng.random()
     if chance < 0.004:
         return pick_bytes(rng, b"AACCCGGTN", rng.choice((150, 255, 256, 257, 1_000, 1_024, 1_025)))
-    return stored_seq(rng)
+    return stored_seq(rng) if chance < 0.6 else pick_bytes(rng, b"ACCCCGGTT", rng.randint(6, 30))
 
 
 def edit_places(rng, length):
@@ -155,8 +159,9 @@ def edit_places(rng, length):
     return some_places(rng, length)
 
 
-def made(rng, seq, after, reverse, length, headers=STORED_HEADERS):
-    record = random_record(rng, after, reverse, random_fields(rng, seq, length, headers))
+def made(rng, seq, after, reverse, length):
+    """A record with SEQ `after` and tags on `seq`, both in read orientation; now and then damaged."""
+    record = random_record(rng, after, reverse, random_fields(rng, seq, length, rng.choice(HEADER_LISTS)))
     return damaged_record(rng, record) if rng.random() < 0.12 else record
 
 
@@ -191,7 +196,7 @@ def random_mask(rng):
 
 def random_drop(rng):
     seq, reverse = random_read(rng), rng.randrange(2)
-    record = made(rng, seq, seq, reverse, len(seq), rng.choice((STORED_HEADERS, DROPPABLE, DROPPABLE)))
+    record = made(rng, seq, seq, reverse, len(seq))
     places = [place for place in edit_places(rng, len(seq)) if place < len(seq) or rng.random() < 0.4]
     return with_room(rng, record, lambda room: p.record_drop(record, room, places))
 
@@ -370,7 +375,17 @@ def boundary_records():
         yield record, b"CC"
 
 
+def full_record(after, reverse):
+    """A record whose tag lists all of 16,000 C, with another SEQ in read orientation."""
+    mm, ml, _ = all_listed(16_000)
+    fields = bam.integer(b"MN", "S", 16_000), bam.text(b"MM", mm), bam.values(ml), bam.text(b"am", mm)
+    return bam.record(as_stored(after, reverse), *fields, flag=REVERSE * reverse)
+
+
 def boundary_mask():
+    for reverse in (0, 1):
+        record = full_record(b"CN" * 8_000, reverse)
+        yield p.record_mask(record, len(record), as_stored(b"C" * 16_000, reverse))
     for record, seq in boundary_records():
         yield p.record_mask(record, len(record), b"N" + seq[1:])
         yield p.record_mask(record, len(record) - 1 if record else 0, seq)
@@ -382,6 +397,13 @@ def boundary_mask():
 
 
 def boundary_drop():
+    for reverse in (0, 1):
+        record = full_record(b"C" * 16_000, reverse)
+        yield p.record_drop(record, len(record), range(0, 16_001, 3))
+        yield p.record_drop(record, len(record), range(16_000, -1, -1))
+    mm, _, seq = many_groups(21_845)
+    groups = bam.record(seq, bam.text(b"MM", mm))
+    yield p.record_drop(groups, len(groups), [3])
     for record, seq in boundary_records():
         yield p.record_drop(record, len(record), [max(0, len(seq) - 1)])
         yield p.record_drop(record, len(record) - 1 if record else 0, [])
@@ -396,17 +418,54 @@ def boundary_cut():
     for record, seq in boundary_records():
         yield p.record_cut(record, len(record) + 3, b"C" + seq, 0, 1)
         yield p.record_cut(record, len(record), seq[:16_000], 0, 0)
-    mm, ml, seq = all_listed(16_000)
+    seq = b"C" * 16_000
     for reverse, after in itertools.product((0, 1), (seq[1:], seq[:15_000], b"")):
-        fields = bam.integer(b"MN", "S", 16_000), bam.text(b"MM", mm), bam.values(ml)
-        record = bam.record(as_stored(after, reverse), *fields, flag=REVERSE * reverse)
-        yield p.record_cut(record, AMPLE, as_stored(seq, reverse), reverse, 0)
+        yield p.record_cut(full_record(after, reverse), AMPLE, as_stored(seq, reverse), reverse, 0)
     whole = bam.record(b"CC", bam.text(b"MM", b"C+m?,0;"))
     for before in (b"C" * 16_000, b"C" * 16_001, b"C" * 16_002):
         yield p.record_cut(whole, AMPLE, before, 0, 0)
     for start in (U64, U64 - 1, 2**63, 2**32, "00", U64 + 1, "-1"):
         yield p.record_cut(whole, AMPLE, b"CCC", 1, start)
 
+
+# ---- Reads of about 1,024 bases ------------------------------------------------------------------
+
+
+def rows_of_records():
+    """Reads with calls at both ends, forward and reverse: whether reverse, SEQ in read orientation, and the fields."""
+    for length, reverse in itertools.product(ROW_LENGTHS, (0, 1)):
+        mm, ml, seq = listed_at_ends(length)
+        yield reverse, seq, [bam.text(b"bm", mm), bam.integer(b"MN", "s", length), bam.values(ml), bam.text(b"MM", mm)]
+
+
+def row_record(after, reverse, fields):
+    return bam.record(as_stored(after, reverse), *fields, flag=REVERSE * reverse, spare=9)
+
+
+def rows_mask():
+    for reverse, seq, fields in rows_of_records():
+        for places in places_at_ends(len(seq)):
+            yield p.record_mask(row_record(masked_at(seq, places), reverse, fields), AMPLE, as_stored(seq, reverse))
+
+
+def rows_drop():
+    for reverse, seq, fields in rows_of_records():
+        for places in places_at_ends(len(seq)):
+            yield p.record_drop(row_record(seq, reverse, fields), AMPLE, places)
+
+
+def rows_cut():
+    """Cuts of one base at either end, so from 1,025 bases to 1,024 too; a mask; and a mask with the reverse flag changed."""
+    for reverse, seq, fields in rows_of_records():
+        before = as_stored(seq, reverse)
+        for start, after in ((0, seq[1:] if reverse else seq[:-1]), (1, seq[:-1] if reverse else seq[1:])):
+            yield p.record_cut(row_record(after, reverse, fields), AMPLE, before, reverse, start)
+        after = masked_at(seq, [0, len(seq) - 1])
+        yield p.record_cut(row_record(after, reverse, fields), AMPLE, before, reverse, None)
+        yield p.record_cut(row_record(after, 1 - reverse, fields), AMPLE, before, reverse, None)
+
+
+ROWS = {"K2.RMASK": rows_mask, "K2.RDROP": rows_drop, "K2.RCUT": rows_cut}
 
 # As in generate.SOURCES: all short requests, one random request, the boundary requests, the number of random requests.
 SOURCES = {
