@@ -417,6 +417,9 @@ kept("no MM, am or bm: ML and a stale MN stay", MASK, bam.record(TWO_C, bam.valu
 becomes("MN disagrees, and SEQ did not change", MASK, bam.record(TWO_C, OTHER, ONE_CALL, b"MNC\3", bam.values(b"\7")), TWO_C,
         left=bam.record(TWO_C, OTHER), went=1)
 becomes("MN negative", DROP, bam.record(TWO_C, ONE_CALL, b"MNc\xfe"), [0], left=bam.record(TWO_C), went=1)
+MANY_C = b"C" * 255
+becomes("MN of type c is never 255", DROP, bam.record(MANY_C, NO_CALL, b"MNc\xff"), [0], left=bam.record(MANY_C), went=1)
+kept("MN of type C is 255", DROP, bam.record(MANY_C, NO_CALL, b"MNC\xff"), [0])
 becomes("MN of 254 is not -2", DROP, bam.record(TWO_C, ONE_CALL, b"MNC\xfe"), [0], left=bam.record(TWO_C), went=1)
 kept("a drop of no place does not look at MN", DROP, bam.record(TWO_C, ONE_CALL, b"MNC\3"), [])
 kept("a cut from no bases to no bases does not look at MN", CUT, bam.record(b"", NO_CALL, b"MNC\3"), b"", 0, None)
