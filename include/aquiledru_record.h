@@ -40,7 +40,7 @@ enum {
 #define AQL_RECORD_GROWTH 3u
 
 /* Edits the tags after bases of SEQ were masked: `before` has SEQ's letters before that, as stored. Nothing changes if they are SEQ's letters now. MN is
- * compared with the length of SEQ, before anything else is looked at. If `before` has another length than SEQ, no tag can be edited.
+ * compared with the length of SEQ before `before` is looked at. If `before` has another length than SEQ, no tag can be edited.
  * Returns 0; 14, 15, 1 and 12 as above.
  * Answers 0, 1, 12, 14, 15. */
 uint8_t aql_mask_record(const uint8_t *record, size_t record_len, const uint8_t *before, size_t before_len,
