@@ -10,7 +10,8 @@
  *   other number nothing is written: no byte of `out`, neither *out_len nor *went. The new record is at most three bytes longer than the old one, since MN
  *   may be written in a wider type.
  * - Orientation. `before`, places and start are those of the stored read. The call turns SEQ if the record's flag 0x10 is set.
- * - The first field of a name counts. Further fields of that name stay as they came, and are not looked at.
+ * - The first field of a name counts. Further fields of that name stay as they came, and are not looked at, with one exception: if a cut removes the first
+ *   MN together with MM, then the next MN is the first one left, and gets SEQ's length.
  * - A record without MM, am and bm, of whatever type, stays as it came, with its ML and MN.
  * - MN is the field MN if it is of an integer type (c, C, s, S, i or I). If it is not the length that the tags were written for, then MM, ML, MN, am and bm
  *   all go, whatever their types.
