@@ -4,8 +4,6 @@
 
 /* More bytes than a record has in which SEQ, MM, ML, am and bm are each one over the domain's bound. */
 #define RECORD 450000u
-/* A new record has at most so many bytes more than the old one: MN may become a number of four bytes. */
-#define GROWTH 3u
 
 /* A record, from a field, and the rows that the new one is written to, with the room of the next field; and the arguments that a call takes for the latter. */
 struct record {
@@ -19,7 +17,7 @@ static struct record read_record(struct request *q)
     struct record r;
     uint64_t room = read_number(q, 1, UINT64_MAX);
     r.given = read_bytes(q, 0, RECORD);
-    r.out = row_of(1, room < r.given->n + GROWTH ? (size_t)room : r.given->n + GROWTH);
+    r.out = row_of(1, room < r.given->n + AQL_RECORD_GROWTH ? (size_t)room : r.given->n + AQL_RECORD_GROWTH);
     r.out_len = output_sizes(1);
     r.went = output_sizes(1);
     return r;
