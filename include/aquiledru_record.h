@@ -27,8 +27,10 @@
  * - Yes and no. A uint8_t that asks for a yes is yes for every value but 0.
  * - Orientation. `before`, places and start are those of the stored read; places and start count from 0. MM and ML are always in read orientation, and the
  *   call itself turns the others to it: SEQ, places and start if the record is reverse, that is if its flag 0x10 is set, and so `before`, but in a cut if
- *   before_reverse is yes. `before` is in letters: A and T, C and G, R and Y, K and M, B and V, D and H are each other's complement in the same case, that
- *   of U is A, and any other byte is its own.
+ *   before_reverse is yes.
+ * - Letters. `before` has a byte for each base, which is compared with SEQ's letter as it is; SEQ's letters are those of =ACMGRSVTWYHKDBN by their codes,
+ *   so in upper case. Turned, A and T, C and G, R and Y, K and M, B and V, D and H become each other in the same case, U becomes A and u becomes a, and
+ *   any other byte stays.
  *
  * What becomes of the tags
  *

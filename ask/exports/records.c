@@ -284,7 +284,7 @@ static void try_cut(void)
 /* As many bases, bytes of MM and values of ML as the domain allows, in one record: a group on N with a skip of no base for each value. */
 static void try_largest_record(void)
 {
-    enum { CALLS = 16000, HEADER = 4 };
+    enum { CALLS = AQL_RECORD_MAX_SEQ, HEADER = 4 };
     size_t front = FIXED + NAME + CALLS / 2 + CALLS, text = AQL_RECORD_MAX_MM, ml = CALLS, i;
     struct row *r = row_bytes(front + 3 + text + 1 + 8 + ml, 0x11), *before = row_bytes(CALLS, 'A'), *places = row_u32(1, CALLS - 1);
     struct answer a = answer_of(r->n);
