@@ -10,7 +10,7 @@ are_proved=(-name '*.rt' -o -name '*.antt' -o -name crates.txt -o -name rt-versi
 library() {
     case "$1" in
     archive) title="the C library" crate=taglib proved="$root/target/staticlib/proved" others=(-o -path "$root/crates/record*") ;;
-    records) title="its record layer" crate=record_lib proved="$root/target/staticlib/proved-records" others=() ;;
+    records) title="the record layer" crate=record_lib proved="$root/target/staticlib/proved-records" others=() ;;
     *) return 1 ;;
     esac
     archive="$root/target/staticlib/lib$crate.a"

@@ -194,17 +194,21 @@ class Packages(Tree):
             os.remove(self.noted)
         ended = subprocess.run(words, cwd=self.tree, env=self.settings, capture_output=True, text=True, check=False, stdin=subprocess.DEVNULL)
         self.assertEqual(ended.returncode, 0, ended.stderr)
+        self.said = ended.stderr
         return read(self.noted).split("\n")[:-1] if os.path.exists(self.noted) else []
 
     def test_one_call_proves_both(self):
         self.assertEqual(self.asked("tools/build", "ask"), ["check", "staticlib taglib", "staticlib record_lib"])
+        self.assertIn("build: proves the C library and the record layer and builds them, once", self.said)
         self.assertEqual(self.asked("tools/build", "exports", "tagedit", "records", "archive"), [])
+        self.assertEqual(self.said, "")
         self.touch("lent")
         self.assertEqual(self.asked("tools/build", "archive", "records"), ["check", "staticlib taglib", "staticlib record_lib"])
 
     def test_first_is_built_alone(self):
         self.assertEqual(self.asked("./tagedit", "--version"), [])
         self.assertEqual(self.asked("tools/build", "tagedit"), ["check", "staticlib taglib"])
+        self.assertIn("build: proves the C library and builds it, once", self.said)
         self.assertEqual(self.asked("tools/build", "records"), ["check", "staticlib record_lib"])
         self.touch("record_lib")
         os.utime(os.path.join(self.tree, "include", "aquiledru_record.h"))
