@@ -72,4 +72,9 @@ void ask_stored_drop(struct request *q);
 void ask_stored_cut(struct request *q);
 void ask_stored_session(struct request *q);
 
+/* records.c */
+void ask_record_mask(struct request *q);
+void ask_record_drop(struct request *q);
+void ask_record_cut(struct request *q);
+
 #endif

@@ -1,11 +1,11 @@
 #!/usr/bin/env python3
-"""Puts faults into copies of the header and of the harness, one at a time, and checks that each is noticed.
+"""Puts faults into copies of the headers and of the harness, one at a time, and checks that each is noticed.
 
     python3 ask/faults.py
 
-A fault of the header would mislead a lab. A fault of the harness stands for a library that reads or writes outside a row, or writes
+A fault of a header would mislead a lab. A fault of the harness stands for a library that reads or writes outside a row, or writes
 although it refuses. Each fault is a change of a file's text that must apply exactly once. It is noticed by tools/check-header, by a
-frozen answer in one of four turns, by the program `exports`, or, for a fault of the header, by the compiler. A copy without a fault
+frozen answer in one of four turns, by the program `exports`, or, for a fault of a header, by the compiler. A copy without a fault
 must pass all of these. Last, a fault in what is built from long evidence must be found by the load and shrunk, if the Rust is at
 hand. The last line is `N faults, N noticed`. The status is 1 if a fault is not noticed.
 """
@@ -28,6 +28,7 @@ import freeze  # noqa: E402
 import judge  # noqa: E402
 
 HEADER = "include/aquiledru.h"
+RECORD_HEADER = "include/aquiledru_record.h"
 TURNS = range(4)
 COMPILER = "the compiler"
 
@@ -59,6 +60,37 @@ FAULTS = [
      "AQL_TRANSCRIPT_OUT 81925u", "AQL_TRANSCRIPT_OUT 81924u"),
     ("a comment of the header leaves a number out", HEADER,
      "1 and 2 come before 21.\n * Answers 0, 1 to 9, 11, 21.", "1 and 2 come before 21.\n * Answers 0, 1 to 9, 11."),
+    ("the record header lacks a parameter", RECORD_HEADER,
+     "const uint8_t *before, size_t before_len, uint8_t before_reverse,\n                       uint8_t start_known",
+     "const uint8_t *before, size_t before_len,\n                       uint8_t start_known"),
+    ("the record header exchanges two rows", RECORD_HEADER,
+     "aql_mask_record(const uint8_t *bam, size_t bam_len, const uint8_t *before, size_t before_len",
+     "aql_mask_record(const uint8_t *before, size_t before_len, const uint8_t *bam, size_t bam_len"),
+    ("the record header exchanges two numbers that a call writes", RECORD_HEADER,
+     "const uint32_t *places, size_t places_len,\n                        uint8_t *out, size_t out_room, size_t *out_len, size_t *went",
+     "const uint32_t *places, size_t places_len,\n                        uint8_t *out, size_t out_room, size_t *went, size_t *out_len"),
+    ("the record header makes places narrower", RECORD_HEADER,
+     "const uint32_t *places", "const uint16_t *places"),
+    ("the record header makes a start narrower", RECORD_HEADER,
+     "size_t start,", "uint32_t start,"),
+    ("the record header makes a written number narrower", RECORD_HEADER,
+     "size_t start, uint8_t *out, size_t out_room, size_t *out_len, size_t *went", "size_t start, uint8_t *out, size_t out_room, size_t *out_len, uint8_t *went"),
+    ("the record header gives two numbers one value", RECORD_HEADER,
+     "AQL_RECORD_SHORT = 14,     /*", "AQL_RECORD_SHORT = 15,     /*"),
+    ("the record header gives a number another value", RECORD_HEADER,
+     "AQL_RECORD_NO_ROOM = 12", "AQL_RECORD_NO_ROOM = 13"),
+    ("the record header allows one base more", RECORD_HEADER,
+     "AQL_RECORD_MAX_SEQ 16000u", "AQL_RECORD_MAX_SEQ 16001u"),
+    ("the record header allows one byte of MM more", RECORD_HEADER,
+     "AQL_RECORD_MAX_MM 65536u", "AQL_RECORD_MAX_MM 65537u"),
+    ("the record header says that a record grows by less", RECORD_HEADER,
+     "AQL_RECORD_GROWTH 3u", "AQL_RECORD_GROWTH 2u"),
+    ("a comment of the record header leaves a number out", RECORD_HEADER,
+     "Answers 0, 1, 12, 14, 15. */\nuint8_t aql_cut_record", "Answers 0, 1, 12, 14. */\nuint8_t aql_cut_record"),
+    ("the record header has a name of the other header", RECORD_HEADER,
+     "    AQL_RECORD_DONE = 0,", "    AQL_RECORD_DONE = 0,\n    AQL_DONE = 0,"),
+    ("the record header needs the other header", RECORD_HEADER,
+     "#include <stdint.h>", "#include <stdint.h>\n#include \"aquiledru.h\""),
     ("byte rows are lent one entry longer than they are", "ask/rows.h",
      "#define U8(r) as_u8(r), (r)->n", "#define U8(r) as_u8(r), (r)->n + 1"),
     ("rows of 32 bits are lent one entry longer than they are", "ask/rows.h",
@@ -109,6 +141,35 @@ FAULTS = [
      "aql_stored_tally(PACKED(s), reverse, ", "aql_stored_tally(PACKED(s), reverse & 0, "),
     ("a turned read reads one byte past its row", "ask/stored.c",
      "    if (answered(aql_turn(", "    s.bases += *(volatile uint8_t *)(s.row->bytes + s.row->n) & 0;\n    if (answered(aql_turn("),
+    ("a refused call on a record has written", "ask/records.c",
+     "    if (!answered(number))\n", "    if (number && r.out->n)\n        r.out->bytes[r.out->n - 1] ^= 1;\n    if (!answered(number))\n"),
+    ("a refused call on a record has written whether a tag went", "ask/records.c",
+     "    if (!answered(number))\n", "    as_size(r.went)[0] ^= number != 0;\n    if (!answered(number))\n"),
+    ("a call on a record writes past its answer, within its row", "ask/records.c",
+     "    put_bytes(r.out, written(r.out_len, 0));",
+     "    put_bytes(r.out, written(r.out_len, 0));\n    if (r.out->filled < r.out->n)\n        r.out->bytes[r.out->filled] ^= 1;"),
+    ("a call on a record writes one byte past its row", "ask/records.c",
+     "    if (!answered(number))\n", "    r.out->bytes[r.out->n] ^= 1;\n    if (!answered(number))\n"),
+    ("a call on a record reads one byte past the record", "ask/records.c",
+     "    if (!answered(number))\n", "    number ^= *(volatile uint8_t *)(r.given->bytes + r.given->n) & 0;\n    if (!answered(number))\n"),
+    ("a call on a record changes the record that it reads", "ask/records.c",
+     "    if (!answered(number))\n", "    if (r.given->n)\n        r.given->bytes[0] ^= 1;\n    if (!answered(number))\n"),
+    ("a record's row has one byte less room", "ask/records.c",
+     "U8((r).out), as_size", "as_u8((r).out), (r).out->n - ((r).out->n > 0), as_size"),
+    ("a cut record is not told that it was reverse", "ask/records.c",
+     "U8(before), before_reverse, known", "U8(before), before_reverse & 0, known"),
+    ("a cut record is told a start that is not known", "ask/records.c",
+     "before_reverse, known, start", "before_reverse, known | 1, start"),
+    ("in exports, a record is lent one byte longer than it is", "ask/exports/records.c",
+     "aql_mask_record(U8(r), U8(before)", "aql_mask_record(as_u8(r), (r)->n + 1, U8(before)"),
+    ("in exports, a room is one byte longer than it is", "ask/exports/records.c",
+     "U8((a).out), as_size", "as_u8((a).out), (a).out->n + 1, as_size"),
+    ("in exports, the length and what went are exchanged", "ask/exports/records.c",
+     "as_size((a).out_len), as_size((a).went)", "as_size((a).went), as_size((a).out_len)"),
+    ("in exports, a drop has a place more", "ask/exports/records.c",
+     "aql_drop_record(U8(r), U32(places)", "aql_drop_record(U8(r), as_u32(places), (places)->n + 1"),
+    ("in exports, a start is always known", "ask/exports/records.c",
+     "U8(before), reverse, known, start, OUT_OF(a))", "U8(before), reverse, known | 1, start, OUT_OF(a))"),
 ]
 
 
@@ -142,7 +203,7 @@ def ran(work, *words):
 
 def built(work, program, *patterns):
     sources = [path for pattern in patterns for path in sorted(glob.glob(os.path.join(work, pattern)))]
-    return ran(work, os.path.join(ROOT, "tools", "kit-cc"), os.path.join(work, program), *sources)
+    return ran(work, os.path.join(ROOT, "tools", "kit-cc"), "--records", os.path.join(work, program), *sources)
 
 
 def noticed(command, work):
@@ -169,7 +230,7 @@ def tried(command, fault):
         copied(work)
         put_in(work, *fault)
         ways = list(noticed(command, work))
-        if fault[1] != HEADER and any(way.startswith(COMPILER) for way in ways):
+        if fault[1] not in (HEADER, RECORD_HEADER) and any(way.startswith(COMPILER) for way in ways):
             sys.exit(f"the fault '{fault[0]}' does not compile")
         return ways
 
@@ -193,7 +254,7 @@ def loaded(command):
         judge.ask_command = lambda: [*command[:-1], os.path.join(work, "asked")]
         said = io.StringIO()
         with contextlib.redirect_stdout(said):
-            status = judge.load(argparse.Namespace(seed=1, requests=20_000, sample=200, table=False))
+            status = judge.load(argparse.Namespace(seed=1, requests=20_000, sample=200, table=False, calls=judge.generate.CALLS))
     found = [int(size.replace(",", "")) for size in re.findall(r"shrunk from [\d,]+ characters to ([\d,]+)", said.getvalue())]
     return status == 1 and bool(found) and min(found) <= MOST_CHARACTERS
 

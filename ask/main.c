@@ -24,6 +24,7 @@ static const struct call calls[] = {
     {"K1.TURN", 2, 2, 1, ask_turn},         {"K1.UNPACK", 3, 3, 1, ask_unpack},     {"K1.CALLS", 5, 5, 1, ask_stored_calls},
     {"K1.PMASK", 7, 7, 2, ask_stored_mask}, {"K1.PDROP", 7, 7, 2, ask_stored_drop}, {"K1.PCUT", 8, 8, 2, ask_stored_cut},
     {"K1.PSES", 6, MOST_FIELDS, 0, ask_stored_session},
+    {"K2.RMASK", 3, 3, 0, ask_record_mask}, {"K2.RDROP", 3, 3, 0, ask_record_drop}, {"K2.RCUT", 5, 5, 0, ask_record_cut},
 };
 
 /* ---- One request */

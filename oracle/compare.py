@@ -14,7 +14,7 @@ import collections
 import sys
 
 import generate
-import model
+import models
 import rust
 import stated
 
@@ -100,9 +100,9 @@ def compare_with_rust(options):
     program = rust.driver()
     counts = Counts()
     for call in options.calls:
-        counts.add_all(program, generate.requests(call, options.seed, options.share), model)
+        counts.add_all(program, generate.requests(call, options.seed, options.share), models)
     counts.print_table(sys.stdout)
-    unlike = not_as_stated(model, options.calls)
+    unlike = not_as_stated(models, options.calls)
     print_disagreements(counts.disagreements, sys.stdout)
     print_disagreements(unlike, sys.stdout)
     total = sum(counts.requests.values())

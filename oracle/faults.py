@@ -1,9 +1,9 @@
 #!/usr/bin/env python3
-"""Puts deliberate faults into the model, one at a time, and checks that the comparison notices each.
+"""Puts deliberate faults into the models, one at a time, and checks that the comparison notices each.
 
     python3 oracle/faults.py
 
-Each fault is a change of the model's text that must apply exactly once. A fault is noticed if the changed model
+Each fault is a change of the text of model.py or of records.py that must apply exactly once. A fault is noticed if the changed model
 disagrees with the Rust on a modest list of requests, or with an answer that the documents state. The last line is
 `N faults, N noticed`. The status is 1 if a fault is not noticed, and 3 if the Rust is missing.
 """
@@ -13,6 +13,7 @@ import types
 
 import compare
 import generate
+import model
 import rust
 import stated
 
@@ -202,10 +203,139 @@ FAULTS = [
      "    refuse_longer(MOST_BASES - 1, seq)\n    refuse_bad_columns(seq, inf)\n    return [show_bytes(restored("),
 ]
 
+# The same of the record layer's model.
+RECORD_FAULTS = [
+    ("MN compared with SEQ in a cut",
+     "disagrees(record.fields, len(before))",
+     "disagrees(record.fields, record.bases)"),
+    ("B:c taken for B:C",
+     'value[:1] == b"C"',
+     'value[:1] in (b"C", b"c")'),
+    ("am edited with ML",
+     "new = edited(edit, text, None)",
+     "new = edited(edit, text, values_of(fields))"),
+    ("a field lost behind the edited one",
+     '    put(fields, name, b"Z", new[0] + b"\\0")\n    return False\n',
+     '    put(fields, name, b"Z", new[0] + b"\\0")\n    place = place_of(fields, name)\n    del fields[place + 1 : place + 2]\n    return False\n'),
+    ("an edited field moves to the end",
+     "    fields[place_of(fields, name)] = name, kind, value\n",
+     "    del fields[place_of(fields, name)]\n    fields.append((name, kind, value))\n"),
+    ("MN not updated",
+     '        put(record.fields, MN, MN_KIND, len(new).to_bytes(4, "little"))\n',
+     "        pass\n"),
+    ("MN updated where the length stays",
+     "    if len(old) != len(new) and stated_length",
+     "    if stated_length"),
+    ("MN written as I",
+     'MN_KIND = b"i"',
+     'MN_KIND = b"I"'),
+    ("MN of type Z not removed",
+     "        remove(fields, MM, ML, MN)\n",
+     "        remove(fields, MM, ML, *([] if stated_length(fields) is None else [MN]))\n"),
+    ("MN of type A is a number",
+     'SIGNED = {b"c": True,',
+     'SIGNED = {b"A": False, b"c": True,'),
+    ("MN has no sign",
+     'SIGNED = {b"c": True,',
+     'SIGNED = {b"c": False,'),
+    ("a stale MN leaves am and bm",
+     "    remove(fields, *ALL_FIVE)\n",
+     "    remove(fields, MM, ML, MN)\n"),
+    ("the last of a name counts",
+     "return next((place for place, field in enumerate(fields) if field[0] == name), None)",
+     "return max((place for place, field in enumerate(fields) if field[0] == name), default=None)"),
+    ("all of a name go",
+     """        place = place_of(fields, name)
+        if place is not None:
+            del fields[place]
+""",
+     """        fields[:] = [field for field in fields if field[0] != name]
+"""),
+    ("it is not said that bm went",
+     "    return any(went)\n",
+     "    return any(went[:2])\n"),
+    ("a tag went where one was edited",
+     '    put(fields, name, b"Z", new[0] + b"\\0")\n    return False\n',
+     '    put(fields, name, b"Z", new[0] + b"\\0")\n    return True\n'),
+    ("12 by the old length",
+     "refuse_if(len(new) > room",
+     "refuse_if(len(given) > room"),
+    ("ML of another kind taken for none",
+     "other_ml = ml is None and place_of(fields, ML) is not None",
+     "other_ml = False"),
+    ("MM of another type is removed",
+     "    if mm is None:\n        return False\n",
+     "    if mm is None:\n        remove(fields, MM, ML, MN)\n        return False\n"),
+    ("a mask looks at SEQ before MN",
+     """    if disagrees(record.fields, record.bases):
+        return remove_all(record.fields)
+    if record.seq == before:
+        return False
+""",
+     """    if record.seq == before:
+        return False
+    if disagrees(record.fields, record.bases):
+        return remove_all(record.fields)
+"""),
+    ("a mask of another length is edited",
+     "        model.refuse_unequal(old, new)\n",
+     ""),
+    ("a drop of no place looks at MN",
+     "    if not places:\n        return False\n",
+     ""),
+    ("a cut of no bases looks at MN",
+     "    if not before and not record.seq:\n        return False\n",
+     ""),
+    ("a drop past the end of a reverse record takes the first base",
+     "[last - place if record.reverse else place for place in places if place <= last]",
+     "[max(0, last - place) if record.reverse else place for place in places]"),
+    ("a drop takes a call under '.'",
+     "model.dropped_tag(mm, ml, seq, named)",
+     'model.dropped_tag(mm.replace(b".,", b"?,"), ml, seq, named)'),
+    ("a start counts though the reverse flag changed",
+     "    if start is None or before_reverse != record.reverse:\n",
+     "    if start is None:\n"),
+    ("a start of a reverse record is counted from the read's front",
+     "return start if not record.reverse else behind if behind >= 0 else None",
+     "return start"),
+    ("before is turned by the flag of now",
+     "old, new = turned_if(before_reverse, before), turned_if(record.reverse, record.seq)",
+     "old, new = turned_if(record.reverse, before), turned_if(record.reverse, record.seq)"),
+    ("U has no complement",
+     "CG GC UA RY",
+     "CG GC RY"),
+    ("a record without MM loses a stale MN",
+     "went = listed and call(record, *arguments)",
+     "went = call(record, *arguments)"),
+    ("count times size in 32 bits",
+     "return at + ARRAY_HEAD + count * SIZES[subtype]",
+     "return at + ARRAY_HEAD + count * SIZES[subtype] % 2**32"),
+    ("the header's sums in 32 bits",
+     "refuse_if(len(record) < end, SHORT_RECORD)",
+     "refuse_if(len(record) < end % 2**32, SHORT_RECORD)"),
+    ("an array of A is taken",
+     'for letter in b"cCsSiIf"]',
+     'for letter in b"AcCsSiIf"]'),
+    ("two bytes left are no field",
+     "        refuse_if(len(row) < at + 3, BAD_FIELDS)\n",
+     "        if len(row) < at + 3:\n            break\n"),
+    ("1 asked of MM alone",
+     "for name in LISTING))",
+     "for name in LISTING[:1]))"),
+    ("1 not asked where there is no MM, am or bm",
+     """    refuse_long(record, before)
+    listed = any(place_of(record.fields, name) is not None for name in LISTING)
+""",
+     """    listed = any(place_of(record.fields, name) is not None for name in LISTING)
+    if listed:
+        refuse_long(record, before)
+"""),
+]
 
-def model_text():
-    with open(os.path.join(rust.HERE, "model.py"), encoding="utf-8") as file:
-        return file.read()
+
+def text_of(file):
+    with open(os.path.join(rust.HERE, file), encoding="utf-8") as source:
+        return source.read()
 
 
 def model_with(text, name="the model"):
@@ -214,15 +344,22 @@ def model_with(text, name="the model"):
     return model
 
 
+def records_with(text, name="the record layer's model"):
+    """The same of records.py, which uses the sound model of tags."""
+    found = model_with(text, name)
+    found.answer = lambda line: model.answer(line, found.CALLS)
+    return found
+
+
 def with_fault(text, name, old, new):
     if text.count(old) != 1:
         sys.exit(f"the fault '{name}' applies {text.count(old)} times, not once")
     return text.replace(old, new)
 
 
-def modest_lists():
-    """Requests of every call. Boundary requests are large, so they are here for one call only."""
-    for call in generate.CALLS:
+def modest_lists(calls):
+    """Requests of these calls. Boundary requests are large, so they are here for one call only."""
+    for call in calls:
         sections = generate.sections(call, SEED, SHARE)
         yield sections["short"] + sections["random"] + (sections["boundary"] if call == "REST" else [])
 
@@ -249,27 +386,34 @@ def noticed_by_rust(program, model, lists):
 def noticed_as_stated(model):
     """The name of the first stated answer that the model doesn't give."""
     for name, line, answer in stated.REQUESTS:
-        if model.answer(line) != answer:
+        if line.split("\t", 1)[0] in model.CALLS and model.answer(line) != answer:
             return name
     return None
 
 
-def main():
-    program, text = rust.driver(), model_text()
-    sound = model_with(text)
-    lists = [[(line, sound.answer(line)) for line in requests] for requests in modest_lists()]
+def noticed_faults(text, with_text, faults):
+    """How many of the faults in a model's text are noticed."""
+    program, sound = rust.driver(), with_text(text)
+    lists = [[(line, sound.answer(line)) for line in requests] for requests in modest_lists(sound.CALLS)]
     if any(disagreement(program, pairs) for pairs in lists) or noticed_as_stated(sound):
         sys.exit("the model without a fault does not agree; run compare.py")
     noticed = 0
-    for name, old, new in FAULTS:
-        model = model_with(with_fault(text, name, old, new), name)
-        line, statement = noticed_by_rust(program, model, lists), noticed_as_stated(model)
+    for name, old, new in faults:
+        faulty = with_text(with_fault(text, name, old, new), name)
+        line, statement = noticed_by_rust(program, faulty, lists), noticed_as_stated(faulty)
         noticed += bool(line or statement)
         ways = [f"the Rust at {compare.shorten(line)!r}"] if line else []
         ways += [f"the stated '{statement}'"] if statement else []
         print(f"{name}: " + ("noticed by " + " and ".join(ways) if ways else "NOT NOTICED"))
-    print(f"{len(FAULTS)} faults, {noticed} noticed")
-    sys.exit(noticed != len(FAULTS))
+    return noticed
+
+
+def main():
+    noticed = noticed_faults(text_of("model.py"), model_with, FAULTS)
+    noticed += noticed_faults(text_of("records.py"), records_with, RECORD_FAULTS)
+    count = len(FAULTS) + len(RECORD_FAULTS)
+    print(f"{count} faults, {noticed} noticed")
+    sys.exit(noticed != count)
 
 
 if __name__ == "__main__":

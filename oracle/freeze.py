@@ -15,7 +15,7 @@ import sys
 
 import compare
 import generate
-import model
+import models
 import rust
 
 SEED = 20_260
@@ -23,6 +23,7 @@ FROZEN = os.path.join(rust.HERE, "frozen")
 
 # The most requests of each section; a section that is not named is frozen completely.
 MOST = {"short": 400, "random": 600, "malformed": 70}
+MOST_OF_RECORDS = {"short": 150, "random": 250, "malformed": 30}
 WHOLE = {"PAT": ("short",)}
 # Boundary requests are large. By call: the most bytes that they take together, with their answers.
 BOUNDARY_BYTES = {
@@ -30,10 +31,11 @@ BOUNDARY_BYTES = {
     "CNT": 180_000, "REST": 110_000, "BUILD": 240_000, "BUILDMM": 60_000, "DUP": 60_000, "CALLS": 100_000,
     "TALLY": 330_000, "MASK": 330_000, "DROP": 330_000, "CUT": 330_000, "STEP": 330_000,
     "K1.TURN": 110_000, "K1.UNPACK": 140_000, "K1.CALLS": 160_000, "K1.PMASK": 250_000, "K1.PDROP": 250_000,
-    "K1.PCUT": 250_000, "K1.PSES": 330_000,
+    "K1.PCUT": 250_000, "K1.PSES": 330_000, "K2.RMASK": 20_000, "K2.RDROP": 20_000, "K2.RCUT": 20_000,
 }
 # The most bytes of a frozen request with its answer. A larger request is only compared, in every run of compare.py.
 LARGEST = 500_000
+LARGEST_OF_RECORDS = 140_000
 LEAST_OF_EACH_NUMBER, SHORT_LINE = 8, 2_000
 
 
@@ -42,7 +44,7 @@ def number_of(answer):
 
 
 def size_of(line):
-    return len(line) + len(model.answer(line))
+    return len(line) + len(models.answer(line))
 
 
 def within(requests, most_bytes):
@@ -61,19 +63,20 @@ def part_of(rng, call, name, requests):
     # The lists of the plain calls stay as they were first frozen; these requests of theirs are fresh in every run.
     if name == "rows" and not call.startswith("K1."):
         return []
-    if name in WHOLE.get(call, ()) or name not in MOST or len(requests) <= MOST[name]:
+    most = MOST_OF_RECORDS if call.startswith("K2.") else MOST
+    if name in WHOLE.get(call, ()) or name not in most or len(requests) <= most[name]:
         return requests
-    kept = set(rng.sample(range(len(requests)), MOST[name]))
+    kept = set(rng.sample(range(len(requests)), most[name]))
     return [line for place, line in enumerate(requests) if place in kept]
 
 
 def missing_numbers(chosen, every):
     """Further requests, so that each number of the call's answers occurs several times, or once if it takes a
     large request."""
-    seen = collections.Counter(number_of(model.answer(line)) for line in chosen)
+    seen = collections.Counter(number_of(models.answer(line)) for line in chosen)
     present, more = set(chosen), []
     for line in sorted(every, key=len):
-        number = number_of(model.answer(line))
+        number = number_of(models.answer(line))
         wanted = LEAST_OF_EACH_NUMBER if len(line) < SHORT_LINE else 1
         if line not in present and seen[number] < wanted:
             seen[number] += 1
@@ -88,7 +91,8 @@ def list_for(call):
     chosen = [line for name, found in sections.items() for line in part_of(rng, call, name, found)]
     every = [line for found in sections.values() for line in found]
     found = dict.fromkeys(chosen + missing_numbers(chosen, every))
-    return [line for line in found if size_of(line) <= LARGEST]
+    largest = LARGEST_OF_RECORDS if call.startswith("K2.") else LARGEST
+    return [line for line in found if size_of(line) <= largest]
 
 
 def path_of(call, kind):
@@ -105,16 +109,16 @@ def freeze():
     frozen = {call: list_for(call) for call in generate.CALLS}
     counts = compare.Counts()
     for requests in frozen.values():
-        counts.add_all(program, requests, model)
+        counts.add_all(program, requests, models)
     compare.print_disagreements(counts.disagreements, sys.stdout)
-    unlike = compare.not_as_stated(model, generate.CALLS)
+    unlike = compare.not_as_stated(models, generate.CALLS)
     compare.print_disagreements(unlike, sys.stdout)
     if counts.disagreements or unlike:
         sys.exit("Rust, model and the stated answers do not agree; nothing was frozen")
     os.makedirs(FROZEN, exist_ok=True)
     for call, requests in frozen.items():
         write_lines(path_of(call, "requests"), requests)
-        write_lines(path_of(call, "answers"), map(model.answer, requests))
+        write_lines(path_of(call, "answers"), map(models.answer, requests))
     counts.print_table(sys.stdout)
 
 
@@ -133,7 +137,7 @@ def faults_of_list(call):
     requests, answers = frozen_lists(call)
     if len(requests) != len(answers):
         return [f"{call}: {len(requests)} requests, {len(answers)} answers"]
-    wrong = [line for line, answer in zip(requests, answers) if model.answer(line) != answer]
+    wrong = [line for line, answer in zip(requests, answers) if models.answer(line) != answer]
     return [f"{call}: the frozen answer is not the model's: {compare.shorten(line)}" for line in wrong]
 
 

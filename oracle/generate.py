@@ -17,32 +17,16 @@ import sys
 
 import lines as p
 import model
+import models
+import record_requests
 import stated
+from pieces import (
+    HEADERS, ROW_LENGTHS, STORED_HEADERS, all_listed, letters, listed_at_ends, many_groups, masked_at, near_mls, pick_bytes, places_at_ends, random_seq,
+    random_tag, rows_over, short_texts, some_places, stored, stored_seq, subsets, words_over,
+)
 
 U32, U64, I64 = 2**32 - 1, 2**64 - 1, 2**63 - 1
 COUNTS = [0, 0, 1, 1, 2, 3, 7, 255, 256, 32_767, 32_768, 2**31, U32 - 1, U32]
-
-
-def words_over(symbols, most):
-    """All byte strings of at most `most` symbols."""
-    for count in range(most + 1):
-        for chosen in itertools.product(symbols, repeat=count):
-            yield b"".join(chosen)
-
-
-def letters(text):
-    """The single bytes of a text."""
-    return [bytes([byte]) for byte in text]
-
-
-def rows_over(values, most):
-    """All lists of at most `most` values."""
-    for count in range(most + 1):
-        yield from map(list, itertools.product(values, repeat=count))
-
-
-def pick_bytes(rng, alphabet, length):
-    return bytes(rng.choices(alphabet, k=length))
 
 
 # ---- Alignment ---------------------------------------------------------------------------------
@@ -407,82 +391,6 @@ def boundary_dup():
 
 # ---- Tags --------------------------------------------------------------------------------------
 
-SYMBOLS = letters(b"CN+m?,;01")
-TOKENS = [b"C+m?", b"C+m", b"N+mh?", b"c+", b",0", b",1", b",", b";"]
-HEADERS = [
-    b"C+m?", b"C+m?", b"C+m", b"C+m.", b"C+mh?", b"C+mh", b"C+hm.", b"G-m?", b"G-m", b"N+n?", b"N+n", b"n+ab?",
-    b"c+m?", b"C+76792?", b"C+76792", b"C+", b"C?", b"CC", b"T+7m?", b"A+a.?", b"C+m?.", b"C+?m", b"U+x?", b"N-",
-]
-
-
-def fitting_ml(mm):
-    """An ML of as many values as a text over TOKENS or HEADERS takes."""
-    count = 0
-    for group in mm.split(b";"):
-        header, *skips = group.split(b",")
-        count += len(skips) * model.values_per_base(header)
-    return bytes(value * 37 % 256 for value in range(count))
-
-
-def near_mls(mm):
-    """No ML, an ML that fits, one that is one short, one that is one over."""
-    ml = fitting_ml(mm)
-    return [None, ml, ml + b"\xee"] + ([ml[:-1]] if ml else [])
-
-
-def short_texts(symbols=4, tokens=4):
-    for text in words_over(SYMBOLS, symbols):
-        yield text + b";"
-    for text in words_over(TOKENS, tokens):
-        yield text + b";"
-    yield from words_over(SYMBOLS, min(symbols, 3))
-
-
-def random_seq(rng):
-    return pick_bytes(rng, b"AACCCCCCGGGTTNnccgU\0", rng.choice((0, 1, 2, 3, 5, 8, 13, 21, 34)))
-
-
-def random_group(rng, seq, headers):
-    header = rng.choice(headers)
-    tracked = model.tracked_places(seq, header[:1].upper())
-    chance, fields, bare = rng.random(), [header], 0
-    for _ in tracked:
-        if rng.random() < chance:
-            zeros = b"0" * (rng.randint(1, 3) if rng.random() < 0.05 else 0)
-            fields.append(zeros + b"%d" % bare)
-            bare = 0
-        else:
-            bare += 1
-    return b",".join(fields) + b";"
-
-
-def damaged(rng, mm, ml):
-    """The tag with one byte changed, put in or taken out, or its ML one value short or over."""
-    way, at = rng.randrange(6), rng.randint(0, len(mm))
-    odd = rng.choice((b",", b";", b"?", b".", b"+", b"-", b"0", b"9", b"m", b" ", b"\0", b"\x80", "é".encode()))
-    if way == 0:
-        return mm[:at] + odd + mm[at:], ml
-    if way == 1:
-        return mm[:at] + odd + mm[at + 1 :], ml
-    if way == 2:
-        return mm[:at] + mm[at + 1 :], ml
-    if way == 3:
-        return mm[:at] + rng.choice((b"18446744073709551616", b"18446744073709551615", b"40")) + mm[at:], ml
-    if ml is None:
-        return mm[:-1], ml
-    return (mm, ml[:-1]) if way == 4 else (mm, ml + b"\1")
-
-
-def random_tag(rng, seq, headers=HEADERS):
-    mm = b"".join(random_group(rng, seq, headers) for _ in range(rng.choice((1, 1, 1, 2, 2, 3))))
-    ml = None if rng.random() < 0.25 else rng.randbytes(len(fitting_ml(mm)))
-    return damaged(rng, mm, ml) if rng.random() < 0.25 else (mm, ml)
-
-
-def all_listed(length):
-    """A tag that lists every C of a SEQ of `length` C."""
-    return b"C+m?" + b",0" * length + b";", (bytes(range(256)) * 63)[:length], b"C" * length
-
 
 def large_tags():
     """Tags at and around the bounds of the domain, each with its ML and its SEQ."""
@@ -499,11 +407,6 @@ def large_tags():
     # Over the program's buffers.
     yield b"C+m?;", None, b"C" * 16_002
     yield b"C+" + b"m" * 65_535 + b";", None, b"C"
-
-
-def many_groups(count):
-    """`count` groups without an entry, on the longest SEQ: the Rust searches SEQ for each group."""
-    return b"C+;" * count, None, b"C" * 16_000
 
 
 def short_calls():
@@ -546,19 +449,6 @@ def boundary_tally():
 SHORT_SEQ = b"CCAC"
 
 
-def subsets(places):
-    for count in range(len(places) + 1):
-        yield from itertools.combinations(places, count)
-
-
-def masked_at(seq, places):
-    after = bytearray(seq)
-    for place in places:
-        if place < len(after):
-            after[place] = ord("N")
-    return bytes(after)
-
-
 def short_edits():
     """Every short tag with every set of places of the short SEQ: with an ML that fits, and with one of the near MLs by turns."""
     choices = itertools.cycle(range(4))
@@ -574,13 +464,6 @@ def short_mask():
         yield p.mask(mm, ml, SHORT_SEQ, masked_at(SHORT_SEQ, places))
     for before, after in itertools.product(words_over(letters(b"CAN"), 2), words_over(letters(b"CAN"), 2)):
         yield p.mask(b"C+m?,0;N+n.;", b"\1", before, after)
-
-
-def some_places(rng, length):
-    places = [rng.randint(0, length + 2) for _ in range(rng.choice((0, 1, 1, 2, 3, 6)))]
-    if rng.random() < 0.05:
-        places.append(rng.choice((U64, 2**63, 2**32, 65_536)))
-    return places
 
 
 def random_after(rng, seq):
@@ -632,21 +515,6 @@ def boundary_drop():
     yield p.drop(b"C+m?,0;", b"\1", b"C", [0] * 65_537)
     yield p.drop(b"C+m?,0;", b"\1", b"C", [0] * 65_538)
     yield p.drop(*many_groups(21_845), [3])
-
-
-# A call takes one row for at most 1,024 bases, and another one for more.
-ROW_LENGTHS = (1_024, 1_025, 1_023)
-
-
-def listed_at_ends(length):
-    """A tag with calls on two bases at each end of a SEQ of all sixteen letters, C only at the ends."""
-    seq = b"CC" + (model.LETTERS.replace(b"C", b"") * 70)[: length - 4] + b"CC"
-    return b"C+m?,0,0,0,0;N+n?,0,%d;" % (length - 2), b"\1\x7f\x80\xff\2\x81", seq
-
-
-def places_at_ends(length):
-    """Places of which a wrong row would miss some, or take one more: at the end, at both ends, and past the end."""
-    return [length - 1], [0, length - 2], [length, length - 1, 1], [length]
 
 
 def rows_drop():
@@ -745,23 +613,7 @@ def rows_step():
 
 # ---- Reads as a BAM record stores them ---------------------------------------------------------
 
-# Groups may be on any letter that a packed SEQ can hold; a group on a turned letter is read at other places.
-STORED_HEADERS = HEADERS + [b"=+m?", b"M+m?", b"K+m", b"R-a?", b"B-h?", b"V+hm?", b"D+z?", b"H+z", b"Y+b?", b"S+b?", b"W+b?"]
 ODD_COUNTS = [0, 1, 2, 16_000, 16_001, 2**32, 2**63, U64 - 1, U64]
-
-
-def stored(seq, reverse, spare=0):
-    """The packed bytes of a read whose bases in read orientation are `seq`; at odd lengths with that spare half."""
-    packed = bytearray(model.repacked(model.turned(seq) if reverse else seq))
-    if len(seq) % 2:
-        packed[-1] |= spare
-    return bytes(packed)
-
-
-def stored_seq(rng):
-    """Bases in read orientation, of all sixteen letters."""
-    alphabet = rng.choice((b"AACCCCCCGGGTTN", b"AACCCCCCGGGTTN", model.LETTERS, b"CGN"))
-    return pick_bytes(rng, alphabet, rng.choice((0, 1, 2, 3, 3, 4, 5, 7, 8, 13, 21, 34, 35)))
 
 
 def packed_pair(rng, seq, reverse):
@@ -1158,6 +1010,7 @@ SOURCES = {
     "K1.PDROP": (short_stored_drop, random_stored_drop, boundary_stored_drop, 6_000),
     "K1.PCUT": (short_stored_cut, random_stored_cut, boundary_stored_cut, 6_000),
     "K1.PSES": (short_stored_session, random_stored_session, boundary_stored_session, 10_000),
+    **record_requests.SOURCES,
 }
 # By call: the requests of about 1,024 bases, where the call chooses between two rows.
 ROWS = {
@@ -1170,6 +1023,7 @@ ROWS = {
     "K1.PDROP": rows_stored_drop,
     "K1.PCUT": rows_stored_cut,
     "K1.PSES": rows_stored_session,
+    **record_requests.ROWS,
 }
 CALLS = list(SOURCES)
 # These two calls work in place, so the lists lend them no room.
@@ -1184,9 +1038,9 @@ def of_call(call):
 def with_room(rng, line):
     """The request with room exactly as needed, or one less in one of the outputs, or a little more."""
     call = line.split("\t", 1)[0]
-    answer = model.answer(line)
+    answer = models.answer(line)
     if not answer.startswith("0\t"):
-        return p.tab(line, room=[0] * model.CALLS[call][2])
+        return p.tab(line, room=[0] * models.CALLS[call][2])
     needed = p.ROOM_FOR[call](*answer.split("\t")[1:])
     which, change = rng.randrange(len(needed)), rng.choice((-1, -1, 0, 0, 1))
     needed[which] = max(0, needed[which] + change)

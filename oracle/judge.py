@@ -4,6 +4,7 @@
     python3 oracle/judge.py frozen                  # every frozen request, in sixteen turns
     python3 oracle/judge.py fresh --seed 7 --share 0.5
     python3 oracle/judge.py load --seed 7 --requests 20000000 --sample 1000000
+    python3 oracle/judge.py load --seed 7 --requests 1000000 --calls K2.RMASK,K2.RDROP,K2.RCUT
 
 `frozen` asks each request sixteen times: with the untouchable page behind the rows and before them, with empty rows
 that are NULL and that are not, and with each of four bytes for yes.
@@ -28,7 +29,7 @@ import time
 import compare
 import freeze
 import generate
-import model
+import models
 import rust
 import shrink
 
@@ -76,7 +77,7 @@ def answers_of(command, requests, turn=0):
 
 
 def model_part(requests):
-    return [model.answer(line) for line in requests]
+    return [models.answer(line) for line in requests]
 
 
 def model_answers(requests):
@@ -94,7 +95,7 @@ def unlike(requests, given, wanted):
 
 def given_and_wanted(command, line):
     """A wrong answer, who judges it, and what that judge says; None if every turn answers rightly."""
-    wanted = model.answer(line)
+    wanted = models.answer(line)
     given = one_part(command, [line] * MANY_TURNS, 0)
     for answer in given:
         if answer != wanted:
@@ -147,7 +148,7 @@ def frozen(options):
 
 def fresh(options):
     command = ask_command()
-    requests = [line for call in generate.CALLS for line in generate.requests(call, options.seed, options.share)]
+    requests = [line for call in options.calls for line in generate.requests(call, options.seed, options.share)]
     failing = unlike(requests, answers_of(command, requests, options.seed), model_answers(requests))
     return judged(command, f"fresh requests of seed {options.seed}", failing, len(requests))
 
@@ -181,10 +182,10 @@ def print_table(calls, differences):
         print(f"~ {name}: {count:,}")
 
 
-def write_corpus(path, seed):
+def write_corpus(path, seed, calls):
     """The fresh requests that the driver changes."""
     with open(path, "w", encoding="latin-1", newline="\n") as file:
-        for call in generate.CALLS:
+        for call in calls:
             file.writelines(line + "\n" for line in generate.requests(call, seed, 0.25))
 
 
@@ -196,7 +197,7 @@ def load(options):
     command = ask_command()
     rust.driver()
     with tempfile.TemporaryDirectory() as work:
-        write_corpus(os.path.join(work, "corpus"), options.seed)
+        write_corpus(os.path.join(work, "corpus"), options.seed, options.calls)
         with concurrent.futures.ThreadPoolExecutor(PROCESSORS) as pool:
             status, tables = zip(*pool.map(lambda number: load_part(command, options, work, number), range(PROCESSORS)))
         compared = time.monotonic()
@@ -219,6 +220,7 @@ def main():
     parser.add_argument("way", choices=["frozen", "fresh", "load"])
     parser.add_argument("--seed", type=int, default=1)
     parser.add_argument("--share", type=float, default=1.0, help="part of the short and random requests, 0 to 1")
+    parser.add_argument("--calls", type=generate.call_list, default=generate.CALLS, help="of `fresh` and `load`: names joined by commas, or all")
     parser.add_argument("--requests", type=int, default=20_000_000)
     parser.add_argument("--sample", type=int, default=1_000_000)
     parser.add_argument("--table", action="store_true", help="also print how often each call gave each number, and each difference by its name")

@@ -156,6 +156,21 @@ def stored_session(reverse, count, packed, mm, ml, *steps, way="old"):
     return tab("K1.PSES", int(reverse), count, row(packed), row(mm), row(ml), way, *shown)
 
 
+# ---- Records: BAM's bytes, the room for the new record, SEQ before in letters as stored ----------
+
+
+def record_mask(record, room, before):
+    return tab("K2.RMASK", row(record), room, row(before))
+
+
+def record_drop(record, room, places):
+    return tab("K2.RDROP", row(record), room, listed(places))
+
+
+def record_cut(record, room, before, before_reverse, start):
+    return tab("K2.RCUT", row(record), room, row(before), int(before_reverse), "-" if start is None else start)
+
+
 # ---- Answers -----------------------------------------------------------------------------------
 
 
@@ -165,6 +180,10 @@ def done(*fields):
 
 def edited(mm, ml=None):
     return done(row(mm), row(ml))
+
+
+def new_record(record, went):
+    return done(int(went), len(record), row(record))
 
 
 # ---- How long the inputs of a request are ------------------------------------------------------

@@ -7,6 +7,8 @@ It is written from the scope's words. A tag is read as rows of spots: each group
 that it tracks, in order, and a spot is bare or called; a skip is a count of bare spots. Masking and cutting
 remove spots, dropping makes a call bare, and the text is written from the spots that are left.
 
+The requests on whole BAM records (K2) are in records.py; models.py answers both.
+
 The parts, in order: the scope's numbers and bounds; the form of requests; alignment; evidence; building;
 reading; editing; the session's steps; reads as a BAM record stores them; the table of calls.
 """
@@ -934,12 +936,12 @@ def read_room(fields, sizes):
     return Room(room)
 
 
-def answer(line):
-    """The line that the program `ask` must give for a request."""
+def answer(line, calls=CALLS):
+    """The line that the program `ask` must give for a request; `calls` is the table of its calls."""
     name, *fields = line.split("\t")
-    if name not in CALLS or len(line) > LONGEST_LINE:
+    if name not in calls or len(line) > LONGEST_LINE:
         return "?"
-    function, field_count, room_sizes = CALLS[name]
+    function, field_count, room_sizes = calls[name]
     try:
         room = read_room(fields, room_sizes)
         if len(fields) != field_count and (field_count or len(fields) < 2):
@@ -951,12 +953,12 @@ def answer(line):
         return str(refused.number)
 
 
-def main():
+def main(calls=CALLS):
     lines = sys.stdin.buffer.read().decode("latin-1").split("\n")
     if lines[-1] == "":
         lines.pop()
     for line in lines:
-        sys.stdout.write(answer(line) + "\n")
+        sys.stdout.write(answer(line, calls) + "\n")
 
 
 if __name__ == "__main__":

@@ -27,9 +27,9 @@ def missing():
         return "cargo is not at hand, so the Rust can't be compiled"
     if cargo_is_too_old():
         return "cargo here is older than 1.85, so the Rust can't be compiled"
-    original = os.path.join(source_folder(), "crates", "fgumi-consensus", "src", "modifications.rs")
-    if not os.path.isfile(original):
-        return "the Rust files are not at hand: FGUMI_SRC, or else ../shared/docs/src, has no crates/fgumi-consensus"
+    for crate, file in (("fgumi-consensus", "modifications.rs"), ("fgumi-raw-bam", "fields.rs")):
+        if not os.path.isfile(os.path.join(source_folder(), "crates", crate, "src", file)):
+            return f"the Rust files are not at hand: FGUMI_SRC, or else ../shared/docs/src, has no crates/{crate}"
     return None
 
 

@@ -3,9 +3,12 @@
 Fields of the same length, such as `before` and `after` of a mask, also lose the same part together. The code does not
 know what each field holds: a request that has lost its form is answered `?` by every program, and so does not fail.
 Only of stored reads it knows more: a number of bases and the packed bytes behind it get smaller together, and a session
-loses whole steps.
+loses whole steps. A BAM record loses whole fields, and bases, with as many letters of the SEQ before it.
 """
 import re
+
+import model
+import records
 
 MOST_TRIES = 1_500  # each starts a program
 
@@ -81,10 +84,41 @@ def smaller_stored(name, fields):
         yield from (fields[:k] + fields[k + 1 :] for k in range(6, len(fields)))
 
 
+def with_fewer_bases(record, less, front):
+    """The bytes of a record without some bases at its stored front or back; of its name and its CIGAR too."""
+    seq = record.seq[less:] if front else record.seq[: len(record.seq) - less]
+    fixed = bytearray(record.head[: records.FIXED])
+    fixed[8], fixed[12:14], fixed[16:20] = 0, b"\0\0", len(seq).to_bytes(4, "little")
+    record.head = bytes(fixed) + model.repacked(seq) + b"\xff" * len(seq)
+    return record.joined()
+
+
+def smaller_records(name, fields):
+    """Requests on a record that parses, with a field less, or with fewer bases in SEQ and before."""
+    if not name.startswith("K2.") or not re.fullmatch("(?:[0-9a-f]{2})+", fields[0]):
+        return
+    given = bytes.fromhex(fields[0])
+    try:
+        count, bases = len(records.Record(given).fields), records.Record(given).bases
+    except records.Refused:
+        return
+    for k in range(count):
+        record = records.Record(given)
+        del record.fields[k]
+        yield [record.joined().hex(), *fields[1:]]
+    for less, front in ((less, front) for less in dict.fromkeys((bases, bases // 2, 4, 1, 0)) if less <= bases for front in (0, 1)):
+        smaller = with_fewer_bases(records.Record(given), less, front).hex()
+        yield [smaller, *fields[1:]]
+        if not name.endswith("DROP"):
+            letters, _ = items_of(fields[2])
+            left = letters[less:] if front else letters[: len(letters) - less]
+            yield [smaller, fields[1], written(left, ""), *fields[3:]]
+
+
 def candidates(line):
     """Smaller requests, those that lose most first."""
     name, *fields = line.split("\t")
-    for fewer in smaller_stored(name, fields):
+    for fewer in (*smaller_stored(name, fields), *smaller_records(name, fields)):
         yield "\t".join([name, *fewer])
     if fields and fields[-1].startswith("@"):
         yield "\t".join([name, *fields[:-1]])

@@ -4,6 +4,7 @@ The answers are copied from the documents' words and not computed. So they also 
 show: which number a refusal has, and which of two numbers comes first. Each entry is a name, a request and its
 answer.
 """
+import bam
 import lines as p
 
 U32, U64 = 2**32 - 1, 2**64 - 1
@@ -349,3 +350,127 @@ state("stored session: all of SEQ is cut", p.stored_session(1, 1, packed("4f"), 
       session_left([0, 0, 21], 0, "4f", b"C+m?;", b""))
 # The Rust's drop_modifications_at_raw takes the place 1 for the read's first base, and drops its call.
 state("differs: a place past the end of a reverse read", p.stored_drop(1, 1, packed("40"), [1], b"C+m?,0;", None), p.edited(b"C+m?,0;"))
+
+# ---- Records (K2): the request's cases -------------------------------------------------------------
+
+AMPLE = 10_000
+REVERSE = 0x10
+TWO_C, FIVE_C = b"CC", b"CCCCC"
+ONE_CALL, BOTH = bam.text(b"MM", b"C+m?,0;"), bam.text(b"MM", b"C+m?,0,0;")
+NO_CALL = bam.text(b"MM", b"C+m?;")
+OTHER = b"XXBs\1\0\0\0\7\x08"
+
+
+def kept(name, make, record, *rest):
+    """States that a call leaves a record as it came."""
+    state("record: " + name, make(record, len(record), *rest), p.new_record(record, 0))
+
+
+def becomes(name, make, record, *rest, left, went=0):
+    """States what a call leaves of a record, in a row as long as that."""
+    state("record: " + name, make(record, len(left), *rest), p.new_record(left, went))
+
+
+def refused(name, number, make, record, room, *rest):
+    state("record: " + name, make(record, room, *rest), number)
+
+
+MASK, DROP, CUT = p.record_mask, p.record_drop, p.record_cut
+WHOLE = bam.record(TWO_C, OTHER, BOTH, bam.values(b"\7\x08"))
+
+refused("14: l_seq of FFFFFFFF in 40 bytes", 14, MASK, bam.head(U32, name=b"") + bytes(8), AMPLE, b"")
+refused("14: 31 bytes", 14, DROP, bam.record(b"", name=b"")[:31], AMPLE, [])
+refused("14: no byte", 14, CUT, b"", AMPLE, b"", 0, None)
+refused("14: a quality short", 14, DROP, bam.record(b"CC")[:-1], AMPLE, [])
+refused("14 before 15", 14, MASK, bam.head(3, name=b"") + b"X", AMPLE, b"")
+refused("14 before 1", 14, MASK, bam.head(16_001, name=b""), AMPLE, b"")
+kept("32 bytes are a record", DROP, bam.record(b"", name=b""), [0])
+refused("15: XXBI with count FFFFFFFF", 15, DROP, bam.record(b"", b"XXBI\xff\xff\xff\xff"), AMPLE, [])
+refused("15: count 40000000 of four bytes each", 15, DROP, bam.record(b"", b"XXBI\0\0\0\x40"), AMPLE, [])
+refused("15: B of subtype A", 15, DROP, bam.record(b"", b"XXBA\1\0\0\0a"), AMPLE, [])
+refused("15: B of subtype A without values", 15, DROP, bam.record(b"", b"XXBA\0\0\0\0"), AMPLE, [])
+refused("15: one byte left", 15, DROP, bam.record(b"", b"X"), AMPLE, [])
+refused("15: two bytes left", 15, DROP, bam.record(b"", b"XX"), AMPLE, [])
+refused("15: no value", 15, DROP, bam.record(b"", b"XXA"), AMPLE, [])
+refused("15: an unknown type", 15, DROP, bam.record(b"", b"XXd12345678"), AMPLE, [])
+refused("15: no NUL", 15, DROP, bam.record(b"", b"XXZtext"), AMPLE, [])
+refused("15: no NUL after H", 15, DROP, bam.record(b"", b"XXH"), AMPLE, [])
+refused("15 before 1", 15, MASK, bam.record(b"", b"X"), AMPLE, b"C" * 16_001)
+refused("1: before", 1, MASK, bam.record(b""), 0, b"C" * 16_001)
+refused("1: SEQ, also where nothing would be edited", 1, DROP, bam.record(b"C" * 16_001), 0, [])
+refused("1: bm of 65,537 bytes", 1, DROP, bam.record(b"", bam.text(b"bm", b"x" * 65_537)), 0, [])
+refused("1: ML of 65,537 values", 1, DROP, bam.record(b"", bam.values(bytes(65_537))), 0, [])
+kept("am of 65,536 bytes", DROP, bam.record(b"", bam.text(b"am", b"x" * 65_536)), [])
+kept("a second ML is not looked at", DROP, bam.record(b"", bam.values(b""), bam.values(bytes(65_537))), [])
+refused("12: as it came, no room", 12, DROP, WHOLE, len(WHOLE) - 1, [])
+refused("12 is of the finished length", 12, MASK, bam.record(b"NC", OTHER, BOTH, bam.values(b"\7\x08")), len(WHOLE) - 4, TWO_C)
+becomes("a mask", MASK, bam.record(b"NC", OTHER, BOTH, bam.values(b"\7\x08"), OTHER), TWO_C,
+        left=bam.record(b"NC", OTHER, ONE_CALL, bam.values(b"\x08"), OTHER))
+becomes("a mask of a reverse record", MASK, bam.record(b"NG", BOTH, bam.values(b"\7\x08"), flag=REVERSE), b"GG",
+        left=bam.record(b"NG", ONE_CALL, bam.values(b"\7"), flag=REVERSE))
+becomes("ML in front of MM", MASK, bam.record(b"NC", bam.values(b"\7\x08"), OTHER, BOTH), TWO_C,
+        left=bam.record(b"NC", bam.values(b"\x08"), OTHER, ONE_CALL))
+kept("nothing is masked, so a tag that does not fit stays", MASK, bam.record(TWO_C, bam.text(b"MM", b"C+m?,9;")), TWO_C)
+becomes("a mask of another length", MASK, bam.record(TWO_C, ONE_CALL, OTHER, b"MNC\2", bam.text(b"am", b"C+m?;")), b"CCC",
+        left=bam.record(TWO_C, OTHER), went=1)
+kept("no MM, am or bm: ML and a stale MN stay", MASK, bam.record(TWO_C, bam.values(b"\7"), b"MNC\x09"), b"AA")
+becomes("MN disagrees, and SEQ did not change", MASK, bam.record(TWO_C, OTHER, ONE_CALL, b"MNC\3", bam.values(b"\7")), TWO_C,
+        left=bam.record(TWO_C, OTHER), went=1)
+becomes("MN negative", DROP, bam.record(TWO_C, ONE_CALL, b"MNc\xfe"), [0], left=bam.record(TWO_C), went=1)
+MANY_C = b"C" * 255
+becomes("MN of type c is never 255", DROP, bam.record(MANY_C, NO_CALL, b"MNc\xff"), [0], left=bam.record(MANY_C), went=1)
+kept("MN of type C is 255", DROP, bam.record(MANY_C, NO_CALL, b"MNC\xff"), [0])
+becomes("MN of 254 is not -2", DROP, bam.record(TWO_C, ONE_CALL, b"MNC\xfe"), [0], left=bam.record(TWO_C), went=1)
+kept("a drop of no place does not look at MN", DROP, bam.record(TWO_C, ONE_CALL, b"MNC\3"), [])
+kept("a cut from no bases to no bases does not look at MN", CUT, bam.record(b"", NO_CALL, b"MNC\3"), b"", 0, None)
+kept("SEQ of length 0 with an MM that lists nothing", DROP, bam.record(b"", NO_CALL, bam.values(b""), b"MNC\0"), [0])
+becomes("SEQ of length 0 with an MM that lists a call", DROP, bam.record(b"", ONE_CALL, OTHER), [0], left=bam.record(b"", OTHER), went=1)
+becomes("MN of another type goes with the others", DROP, bam.record(TWO_C, b"MNZ2\0", bam.text(b"MM", b"C+m"), OTHER), [0],
+        left=bam.record(TWO_C, OTHER), went=1)
+kept("MN of another type is no MN", DROP, bam.record(TWO_C, b"MNZ9\0", NO_CALL), [0])
+becomes("ML of B:c", DROP, bam.record(TWO_C, ONE_CALL, b"MLBc\1\0\0\0\7", b"MNC\2", bam.text(b"am", b"C+m?,0;")), [1],
+        left=bam.record(TWO_C, bam.text(b"am", b"C+m?,0;")), went=1)
+kept("MM of another type, and its ML", DROP, bam.record(TWO_C, bam.text(b"MM", b"C+m", "H"), bam.values(b"\7")), [0])
+becomes("am is edited without ML", DROP, bam.record(TWO_C, BOTH, bam.values(b"\7\x08"), bam.text(b"am", b"C+m?,0;")), [0],
+        left=bam.record(TWO_C, bam.text(b"MM", b"C+m?,1;"), bam.values(b"\x08"), bam.text(b"am", b"C+m?;")))
+becomes("bm goes alone", DROP, bam.record(TWO_C, ONE_CALL, bam.text(b"bm", b"C+m?,2;"), b"MNC\2"), [1],
+        left=bam.record(TWO_C, ONE_CALL, b"MNC\2"), went=1)
+becomes("a drop under '.' removes the tag", DROP, bam.record(TWO_C, bam.text(b"MM", b"C+m.,0;"), bam.values(b"\7"), OTHER), [0],
+        left=bam.record(TWO_C, OTHER), went=1)
+becomes("a drop of a reverse record", DROP, bam.record(b"GG", BOTH, flag=REVERSE), [0], left=bam.record(b"GG", ONE_CALL, flag=REVERSE))
+kept("a drop past the end of a reverse record", DROP, bam.record(b"GG", BOTH, flag=REVERSE), [2])
+becomes("a name twice: the first counts", DROP, bam.record(TWO_C, ONE_CALL, b"MNC\2", BOTH, b"MNC\x09"), [0],
+        left=bam.record(TWO_C, NO_CALL, b"MNC\2", BOTH, b"MNC\x09"))
+becomes("a name twice: the first goes", DROP, bam.record(TWO_C, b"MNC\3", ONE_CALL, b"MNC\2", BOTH), [0],
+        left=bam.record(TWO_C, b"MNC\2", BOTH), went=1)
+becomes("a cut", CUT, bam.record(b"CC", b"MNC\3", OTHER, bam.text(b"MM", b"C+m?,0,1;"), bam.values(b"\7\x08")), b"CCC", 0, 1,
+        left=bam.record(b"CC", b"MNi\2\0\0\0", OTHER, bam.text(b"MM", b"C+m?,1;"), bam.values(b"\x08")))
+becomes("a cut compares MN with the length before", CUT, bam.record(b"CC", b"MNC\2", ONE_CALL), b"CCC", 0, 1, left=bam.record(b"CC"), went=1)
+# Five calls, of which a cut by one takes none, or one with its value: then the three bytes that MN gains are free.
+FULL = bam.record(FIVE_C, b"MNC\6", bam.text(b"MM", b"C+m?,0,0,0,0,0;"), bam.values(b"\1\2\3\4\5"))
+refused("12: MN grows in a cut by one", 12, CUT, FULL, len(FULL), FIVE_C + b"A", 0, 0)
+state("record: the room that MN's growth takes", CUT(FULL, len(FULL) + 3, FIVE_C + b"A", 0, 0),
+      p.new_record(bam.record(FIVE_C, b"MNi\5\0\0\0", bam.text(b"MM", b"C+m?,0,0,0,0,0;"), bam.values(b"\1\2\3\4\5")), 0))
+FULLER = bam.record(FIVE_C, b"MNC\6", bam.text(b"MM", b"C+m?,0,0,0,0,0,0;"), bam.values(b"\1\2\3\4\5\6"))
+state("record: MN grows by what the tag loses", CUT(FULLER, len(FULLER), FIVE_C + b"C", 0, 0),
+      p.new_record(bam.record(FIVE_C, b"MNi\5\0\0\0", bam.text(b"MM", b"C+m?,0,0,0,0,0;"), bam.values(b"\1\2\3\4\5")), 0))
+becomes("the reverse flag changed, same length: edited", CUT, bam.record(b"CN", b"MNC\2", BOTH, flag=0x4), b"GG", 1, None,
+        left=bam.record(b"CN", b"MNC\2", ONE_CALL, flag=0x4))
+kept("the reverse flag changed, SEQ turned", CUT, bam.record(b"CC", BOTH, flag=0x4), b"GG", 1, None)
+becomes("the reverse flag changed, SEQ not turned", CUT, bam.record(b"GG", BOTH, flag=0x4), b"GG", 1, None, left=bam.record(b"GG", flag=0x4), went=1)
+becomes("the reverse flag changed, and shorter", CUT, bam.record(b"C", b"MNC\2", BOTH, OTHER), b"GG", 1, 0, left=bam.record(b"C", OTHER), went=1)
+becomes("no window", CUT, bam.record(b"A", OTHER, BOTH), b"CC", 0, 0, left=bam.record(b"A", OTHER), went=1)
+becomes("an unknown start", CUT, bam.record(b"C", BOTH, OTHER), b"CC", 0, None, left=bam.record(b"C", OTHER), went=1)
+kept("a cut of nothing", CUT, bam.record(b"CC", bam.text(b"MM", b"C+m")), b"CC", 0, None)
+becomes("a cut from the stored front of a reverse record", CUT, bam.record(b"G", BOTH, bam.values(b"\1\2"), flag=REVERSE), b"GG", 1, 1,
+        left=bam.record(b"G", ONE_CALL, bam.values(b"\1"), flag=REVERSE))
+becomes("MM goes with MN, and a second MN is the new length", CUT, bam.record(b"C", bam.text(b"MM", b"x"), b"MNC\2", b"MNC\x09"), b"CC", 0, 0,
+        left=bam.record(b"C", b"MNi\1\0\0\0"), went=1)
+becomes("MM goes, am is edited", CUT, bam.record(b"C", bam.text(b"MM", b"x"), b"MNC\2", bam.text(b"am", b"C+m?,0,0;")), b"CC", 0, 0,
+        left=bam.record(b"C", bam.text(b"am", b"C+m?,0;")), went=1)
+becomes("a byte above 127 in MM, which the Rust accepts", DROP, bam.record(TWO_C, bam.text(b"MM", "C+é?,0;".encode()), OTHER), [1],
+        left=bam.record(TWO_C, OTHER), went=1)
+becomes("U of before pairs with A", MASK, bam.record(b"NA", bam.text(b"MM", b"A+a?,0;"), flag=REVERSE), b"UA",
+        left=bam.record(b"NA", bam.text(b"MM", b"A+a?;"), flag=REVERSE))
+becomes("before may have any letters", MASK, bam.record(b"NG", bam.text(b"MM", b"C+m?,0;"), flag=REVERSE), b"gG",
+        left=bam.record(b"NG", bam.text(b"MM", b"C+m?,0;"), flag=REVERSE))

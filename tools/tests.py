@@ -31,6 +31,14 @@ echo "3 passed, ${{FAILS:-0}} failed"
 exit ${{FAILS:-0}}
 """
 
+# Stands in for rt where libraries are built.
+RT_BUILDS = """#!/bin/bash
+case "$1" in doc | version) exec {rt} "$@" ;; esac
+[ "$1" != check ] || {{ echo check >>{noted}; exit; }}
+echo "$*" >>{noted}
+mkdir -p target/staticlib && cp {target}/staticlib/lib$2.a target/staticlib/
+"""
+
 
 def read(*path):
     with open(os.path.join(ROOT, *path), encoding="utf-8") as file:
@@ -120,9 +128,10 @@ class Needs(Tree):
             self.assertIn("install -y -qq some-package", file.read())
 
     @unittest.skipUnless(os.uname().machine == "x86_64" and shutil.which("cc"), "needs a C compiler for x86-64")
-    def test_example_runs(self):
-        ended = run(["examples/run", "c"])
-        self.assertEqual((ended.returncode, ended.stdout), (0, read("examples", "c", "session.out")), ended.stderr)
+    def test_examples_run(self):
+        for example, output in (("c", "session.out"), ("records", "records.out")):
+            ended = run(["examples/run", example])
+            self.assertEqual((ended.returncode, ended.stdout), (0, read("examples", "c", output)), ended.stderr)
 
     def test_missing_compiler_and_archive(self):
         ended = run(["examples/run", "c"], env={**os.environ, "CC": "/no/such/cc"})
@@ -132,11 +141,82 @@ class Needs(Tree):
         bare = os.path.join(self.folder, "bare")
         for part in ("tools", "examples", "include"):
             shutil.copytree(os.path.join(ROOT, part), os.path.join(bare, part))
-        for words, status in ((["examples/run", "c"], 3), (["tools/kit-cc", "out", "examples/c/session.c"], 1)):
-            ended = subprocess.run(words, cwd=bare, capture_output=True, text=True, check=False)
-            self.assertEqual(ended.returncode, status, words)
+        both = ["tools/kit-cc", "--records", "out", "examples/c/records.c"]
+        self.says_what_builds(bare, "archive", ["examples/run", "c"], ["tools/kit-cc", "out", "examples/c/session.c"], both)
+        self.says_what_builds(bare, "archive records", ["examples/run", "records"])
+        os.makedirs(os.path.join(bare, "target", "staticlib"))
+        shutil.copy(os.path.join(ROOT, "target", "staticlib", "libtaglib.a"), os.path.join(bare, "target", "staticlib"))
+        self.says_what_builds(bare, "archive records", ["examples/run", "records"])
+        self.says_what_builds(bare, "records", both)
+
+    def says_what_builds(self, tree, parts, *commands):
+        """Each command lacks an archive, and says by which words it is built."""
+        for words in commands:
+            ended = subprocess.run(words, cwd=tree, capture_output=True, text=True, check=False)
+            self.assertEqual(ended.returncode, 1 if words[0] == "tools/kit-cc" else 3, words)
             if os.uname().machine == "x86_64" or words[0] == "tools/kit-cc":
-                self.assertIn("`tools/build archive` proves and builds it", ended.stderr, words)
+                self.assertIn("`tools/build %s` proves and builds it" % parts, ended.stderr, words)
+
+
+class Packages(Tree):
+    """The first package knows nothing of the second, the record layer, whose crates are those that begin with `record`."""
+
+    def test_first_names_nothing_of_the_second(self):
+        for line in read("crates.txt").split("\n"):
+            crate, _, uses = line.split("#")[0].partition(":")
+            if not crate.startswith("record"):
+                self.assertFalse([name for name in uses.split() if name.startswith("record")], crate)
+        own = ["include/aquiledru.h", "tagedit", *glob.glob(os.path.join(ROOT, "programs", "tagedit", "*.[ch]"))]
+        self.assertEqual([name for name in own if "aquiledru_record" in read(name) or "record_lib" in read(name)], [])
+
+    def setUp(self):
+        """A tree with two small crates and without archives. The stand-in for rt notes what it is asked, and copies the archives that were built here."""
+        super().setUp()
+        self.tree, self.noted = os.path.join(self.folder, "tree"), os.path.join(self.folder, "noted")
+        ignored = shutil.ignore_patterns("__pycache__")
+        for part in ("tools", "ask", "include", "programs"):
+            shutil.copytree(os.path.join(ROOT, part), os.path.join(self.tree, part), ignore=ignored)
+        for part in ("crates.txt", "rt-version", "tagedit"):
+            shutil.copy(os.path.join(ROOT, part), self.tree)
+        for crate in ("lent", "record_lib"):
+            os.makedirs(os.path.join(self.tree, "crates", crate))
+            self.touch(crate)
+        self.settings = self.stand_in("rt", RT_BUILDS.format(rt=shutil.which("rt"), noted=self.noted, target=os.path.join(ROOT, "target")))
+        self.settings.pop("AQUILEDRU_LOCKED", None)
+
+    def touch(self, crate):
+        with open(os.path.join(self.tree, "crates", crate, "lib.rt"), "w") as file:
+            file.write("\n")
+
+    def asked(self, *words):
+        """What rt is asked while a command runs: the first word of each call, with the library that is built."""
+        if os.path.exists(self.noted):
+            os.remove(self.noted)
+        ended = subprocess.run(words, cwd=self.tree, env=self.settings, capture_output=True, text=True, check=False, stdin=subprocess.DEVNULL)
+        self.assertEqual(ended.returncode, 0, ended.stderr)
+        self.said = ended.stderr
+        return read(self.noted).split("\n")[:-1] if os.path.exists(self.noted) else []
+
+    def test_one_call_proves_both(self):
+        self.assertEqual(self.asked("tools/build", "ask"), ["check", "staticlib taglib", "staticlib record_lib"])
+        self.assertIn("build: proves the C library and the record layer and builds them, once", self.said)
+        self.assertEqual(self.asked("tools/build", "exports", "tagedit", "records", "archive"), [])
+        self.assertEqual(self.said, "")
+        self.touch("lent")
+        self.assertEqual(self.asked("tools/build", "archive", "records"), ["check", "staticlib taglib", "staticlib record_lib"])
+
+    def test_first_is_built_alone(self):
+        self.assertEqual(self.asked("./tagedit", "--version"), [])
+        self.assertEqual(self.asked("tools/build", "tagedit"), ["check", "staticlib taglib"])
+        self.assertIn("build: proves the C library and builds it, once", self.said)
+        self.assertEqual(self.asked("tools/build", "records"), ["check", "staticlib record_lib"])
+        self.touch("record_lib")
+        os.utime(os.path.join(self.tree, "include", "aquiledru_record.h"))
+        program = os.path.join(self.tree, "target", "programs", "tagedit")
+        built = os.stat(program).st_mtime_ns
+        self.assertEqual(self.asked("./tagedit", "--version"), [])
+        self.assertEqual(os.stat(program).st_mtime_ns, built)
+        self.assertEqual(self.asked("tools/build", "ask"), ["check", "staticlib record_lib"])
 
 
 class Documents(unittest.TestCase):

@@ -61,5 +61,6 @@ void try_transcript(void);
 void try_stored_reading(void);
 void try_stored_rewriting(void);
 void try_stored_session(void);
+void try_records(void);
 
 #endif

@@ -1,4 +1,4 @@
-/* `exports`: calls every export of the C library's archive in the ways that only C can: rows that are NULL, each output by itself one entry too short,
+/* `exports`: calls every export of the C library's two archives in the ways that only C can: rows that are NULL, each output by itself one entry too short,
  * numbers that no enum or Bool of Rattle could hold, and as many bases as the domain allows. An untouchable page is next to each row, behind it in one
  * turn and before it in the next. tools/run-exports builds and starts the program; its last line says how many checks were made.
  */
@@ -111,7 +111,8 @@ static void on_touch(int number)
 int main(void)
 {
     static void (*const tries[])(void) = {try_small,   try_alignment,  try_evidence,       try_building,         try_reading,        try_rewriting,
-                                          try_session, try_transcript, try_stored_reading, try_stored_rewriting, try_stored_session, try_corners};
+                                          try_session, try_transcript, try_stored_reading, try_stored_rewriting, try_stored_session, try_records,
+                                          try_corners};
     uint64_t turn;
     size_t i;
     signal(SIGSEGV, on_touch);

@@ -4,11 +4,12 @@
 //! the scope's order: its form, 13, 1, 2, a session's 11, 3 and 4. All else is taken from the Rust's answer.
 //!
 //! A request on a stored read is judged, after its form, 1 and 2, as the plain request in read orientation (stored.rs).
-//! A session on a stored read is judged whole, with the numbers of its steps.
+//! A session on a stored read is judged whole, with the numbers of its steps. A request on a record has rules of its own (records.rs).
 
 use crate::calls::{Effort, are_calls};
-use crate::form::{Call, Kind, Request, joined_length, list_length, row_length};
+use crate::form::{Call, Kind, MOST_BASES, MOST_BYTES, Request, joined_length, list_length, row_length};
 use crate::protocol::{bytes, list, number, signed, small};
+use crate::records;
 use crate::stored::{self, OwnDrop};
 
 const FORM: &str = "? the line is no request, or passes the program's buffers";
@@ -30,8 +31,6 @@ const LONG_CALLS: &str = "calls not derived one by one: dropping those of the li
 const UNNUMBERED: &str = "4 to 10: the Rust gives None, and the number was not derived";
 const NO_SPACE: &str = "12 no room: the Rust's answer passes the room";
 
-const MOST_BASES: usize = 16_000;
-const MOST_BYTES: usize = 65_536;
 const MOST_READS: usize = 4_096;
 const MOST_READ_BASES: usize = 1_048_576;
 const MOST_WORDS: usize = 65_535;
@@ -50,7 +49,7 @@ fn equal_if(agrees: bool) -> Verdict {
     if agrees { Verdict::Equal } else { Verdict::Disagreement }
 }
 
-fn named_if(agrees: bool, name: &'static str) -> Verdict {
+pub fn named_if(agrees: bool, name: &'static str) -> Verdict {
     if agrees { Verdict::Named(name) } else { Verdict::Disagreement }
 }
 
@@ -65,6 +64,9 @@ pub fn verdict(line: &str, rust: &str, answer: &str, effort: Effort) -> Verdict 
     };
     if !asked.is_of_form(call, line) {
         return no_request();
+    }
+    if call.name.starts_with("K2.") {
+        return records::verdict(&asked, rust, answer);
     }
     let asked = Asked { request: &asked, call };
     asked

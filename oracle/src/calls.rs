@@ -16,6 +16,7 @@ use crate::protocol::{
     Reply, absent_or, byte, bytes, list, number, show_absent_or, show_bytes, show_list, signed, size, small,
     yes_or_no,
 };
+use crate::records;
 use crate::stored;
 use crate::vanilla_caller::SourceRead;
 use fgumi_raw_bam::{RawTagsEditor, SamTag, aux_data_slice, find_array_tag, find_string_tag, new_record};
@@ -68,6 +69,7 @@ pub fn answer(line: &str, effort: Effort) -> Option<Reply> {
         "K1.CALLS" | "K1.PMASK" | "K1.PDROP" => stored::in_read_orientation(&request, effort),
         "K1.PCUT" => stored::cut(fields, effort),
         "K1.PSES" => stored::session(fields, effort),
+        "K2.RMASK" | "K2.RDROP" | "K2.RCUT" => records::answer(&request),
         _ => None,
     }
 }

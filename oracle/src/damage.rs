@@ -2,7 +2,9 @@
 //!
 //! A request of the corpus is changed field by field, by the fields' kinds (form.rs). Parallel rows are changed at
 //! the same place, and MM and ML together, so that many requests are still answered with 0. Sometimes one field is
-//! changed alone, or the line itself.
+//! changed alone, or the line itself. damage/records.rs changes BAM records.
+
+mod records;
 
 use crate::agree::needed;
 use crate::answer_line;
@@ -120,6 +122,9 @@ impl<'a> Damage<'a> {
     }
 
     fn change(&mut self, request: &mut Values) {
+        if request.place_of(Kind::Record).is_some() {
+            return self.change_record(request);
+        }
         match self.random.below(20) {
             0..6 => self.stretch(request),
             6..11 if request.place_of(Kind::Text).is_some() => self.change_tag(request),
@@ -136,7 +141,7 @@ impl<'a> Damage<'a> {
         match kind {
             Kind::Text if rare => self.random.pick(b"\0\x7f\x80\xbf\xc3\xa9\xff"),
             Kind::Text => self.random.pick(b",,;??..+-0123456789mhCNcn"),
-            Kind::Values | Kind::GivenValues => self.random.byte(),
+            Kind::Values | Kind::GivenValues | Kind::Record => self.random.byte(),
             Kind::Informative | Kind::Aligned if !rare => self.random.pick(b"\0\x01\x01"),
             _ if rare => self.random.byte(),
             Kind::Packed if self.random.one_in(4) => self.random.byte(),
@@ -246,7 +251,7 @@ impl<'a> Damage<'a> {
 
     fn change_numbers(&mut self, kind: Kind, numbers: &mut Vec<Option<i128>>) {
         let one = matches!(kind, Kind::Place | Kind::Start | Kind::CutStart | Kind::Length | Kind::Flags);
-        let fixed = one || matches!(kind, Kind::Lengths | Kind::BaseCount);
+        let fixed = one || matches!(kind, Kind::Lengths | Kind::BaseCount | Kind::RecordRoom);
         let way = if fixed { Change::Set } else { self.random.pick(&CHANGES) };
         let place = self.random.below(numbers.len() + usize::from(!fixed));
         change(numbers, way, place, self.item(kind));
@@ -495,6 +500,7 @@ impl<'a> Damage<'a> {
             }
             "STEP" => self.settle_step(request),
             name if name.starts_with("K1.") => self.settle_stored(request),
+            name if name.starts_with("K2.") => self.settle_record(request),
             _ => {}
         }
     }

@@ -2,9 +2,9 @@
 
 use crate::protocol::{absent_or, byte, is_bytes, list, number, signed, small, yes_or_no};
 use Kind::{
-    Aligned, BaseCount, Bases, Counts, CutStart, Flags, GivenValues, Informative, Length, Lengths, Mode,
-    Packed, Pattern, Place, Places, Reads, Reference, ReferenceRow, SessionStep, SignedPlaces, Start, Step,
-    Text, Values, Way, Window, Words, YesNo,
+    Aligned, BaseCount, Bases, Before, Counts, CutStart, Flags, GivenValues, Informative, Length, Lengths,
+    Mode, Packed, Pattern, Place, Places, Reads, Record, RecordRoom, Reference, ReferenceRow, SessionStep,
+    SignedPlaces, Start, Step, Text, Values, Way, Window, Words, YesNo,
 };
 
 /// What a field holds. `Bases`, `Informative` and `Counts` of one request are parallel rows.
@@ -49,6 +49,12 @@ pub enum Kind {
     Way,
     /// A step with its numbers, such as `MK:0,1`.
     SessionStep,
+    /// A BAM record.
+    Record,
+    /// The bytes of the row for the new record.
+    RecordRoom,
+    /// The letters of a record's SEQ before it was changed.
+    Before,
 }
 
 /// A call, the kinds of its fields, and how many numbers of room it may be lent.
@@ -67,7 +73,7 @@ const fn call(name: &'static str, fields: &'static [Kind], room: usize) -> Call 
 
 const STRAND: &[Kind] = &[Pattern, Informative, Counts, Counts];
 
-pub const CALLS: [Call; 25] = [
+pub const CALLS: [Call; 28] = [
     call("Q", &[Words, Start, YesNo], 1),
     call("CPG", &[Reference, Place, YesNo], 0),
     call("PAT", &[Flags], 0),
@@ -99,6 +105,9 @@ pub const CALLS: [Call; 25] = [
         again: &[SessionStep],
         most_times: usize::MAX,
     },
+    call("K2.RMASK", &[Record, RecordRoom, Before], 0),
+    call("K2.RDROP", &[Record, RecordRoom, Places], 0),
+    call("K2.RCUT", &[Record, RecordRoom, Before, YesNo, CutStart], 0),
 ];
 
 impl Call {
@@ -126,11 +135,15 @@ impl Call {
 
 // ---- Buffers ---------------------------------------------------------------------------------
 
+pub const MOST_BASES: usize = 16_000;
+pub const MOST_BYTES: usize = 65_536;
 // Each takes one more than the domain allows.
-const BASES: usize = 16_001;
-const BYTES: usize = 65_537;
+const BASES: usize = MOST_BASES + 1;
+const BYTES: usize = MOST_BYTES + 1;
 const READS: usize = 4_097;
 const WORDS: usize = 65_536;
+/// More than a record takes in which SEQ, MM, ML, am and bm are each one over the domain's bound.
+const RECORD: usize = 450_000;
 const LONGEST_LINE: usize = 1_048_575;
 
 /// How many bytes a row of the form has.
@@ -168,7 +181,8 @@ fn holds(kind: Kind, field: &str) -> bool {
     match kind {
         Text | GivenValues | Reference | Packed => is_row(field, BYTES),
         Values => field == "-" || is_row(field, BYTES),
-        Bases | Window | Informative => is_row(field, BASES),
+        Bases | Before | Window | Informative => is_row(field, BASES),
+        Record => is_row(field, RECORD),
         Counts => is_list(field, BASES, small),
         Words => is_list(field, WORDS, small),
         Places => is_list(field, BYTES, number),
@@ -177,7 +191,7 @@ fn holds(kind: Kind, field: &str) -> bool {
         Reads => are_rows(field, READS),
         Aligned => are_rows(field, BYTES),
         Lengths => list_length(field) == 3 && list(field, number).is_some_and(|found| found.len() == 3),
-        Place | Length | BaseCount => number(field).is_some(),
+        Place | Length | BaseCount | RecordRoom => number(field).is_some(),
         CutStart => absent_or(field, number).is_some(),
         Start => signed(field).is_some(),
         Flags => number(field).is_some_and(|flags| flags <= 65_535),

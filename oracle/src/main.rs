@@ -24,6 +24,7 @@ mod form;
 mod load;
 mod protocol;
 mod random;
+mod records;
 mod stand_ins;
 mod stored;
 mod tag;

@@ -29,9 +29,8 @@ impl Value {
             Kind::Counts | Kind::Words | Kind::Places | Kind::SignedPlaces | Kind::Place => {
                 Self::numbers(field)
             }
-            Kind::Start | Kind::CutStart | Kind::Length | Kind::Lengths | Kind::Flags | Kind::BaseCount => {
-                Self::numbers(field)
-            }
+            Kind::Start | Kind::CutStart | Kind::Length | Kind::Lengths | Kind::Flags => Self::numbers(field),
+            Kind::BaseCount | Kind::RecordRoom => Self::numbers(field),
             _ => bytes(field).map_or_else(word, Self::Bytes),
         }
     }
