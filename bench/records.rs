@@ -16,15 +16,15 @@ const HARD_CLIP: u32 = 5;
 
 unsafe extern "C" {
     fn aql_mask_record(
-        record: *const u8, record_len: usize, before: *const u8, before_len: usize,
+        bam: *const u8, bam_len: usize, before: *const u8, before_len: usize,
         out: *mut u8, out_room: usize, out_len: &mut usize, went: &mut usize,
     ) -> u8;
     fn aql_drop_record(
-        record: *const u8, record_len: usize, places: *const u32, places_len: usize,
+        bam: *const u8, bam_len: usize, places: *const u32, places_len: usize,
         out: *mut u8, out_room: usize, out_len: &mut usize, went: &mut usize,
     ) -> u8;
     fn aql_cut_record(
-        record: *const u8, record_len: usize, before: *const u8, before_len: usize, before_reverse: u8, start_known: u8, start: usize,
+        bam: *const u8, bam_len: usize, before: *const u8, before_len: usize, before_reverse: u8, start_known: u8, start: usize,
         out: *mut u8, out_room: usize, out_len: &mut usize, went: &mut usize,
     ) -> u8;
 }
