@@ -35,7 +35,7 @@ extern void qemu_plugin_register_atexit_cb(qemu_plugin_id_t, void (*)(qemu_plugi
 #define EXPORTED __attribute__((visibility("default")))
 EXPORTED int qemu_plugin_version = 1;
 
-#define BUCKETS 256
+#define BUCKETS 1024
 #define CHOOSE_BUCKET 8888
 #define SHOWN_BLOCKS 400
 static uint64_t counted[BUCKETS];

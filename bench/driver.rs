@@ -6,6 +6,7 @@
 mod inputs;
 mod original;
 mod rattle;
+mod records;
 #[path = "../oracle/src/stand_ins.rs"]
 mod stand_ins;
 
@@ -14,9 +15,11 @@ extern crate self as fgumi_dna;
 pub use stand_ins::{MethylationMode, vanilla_caller};
 include!(env!("BENCH_ORIGINALS"));
 
+use fgumi_records::modifications::has_modification_tags;
 use inputs::{Case, Columns, Density, turned_and_packed};
 use rattle::stored::{self, SeqRow};
 use rattle::{Session, TagRows};
+use records::{GROWTH, QUICK, RUST, RecordRow, Records, Rust};
 use std::cell::RefCell;
 use std::ffi::{CString, c_char, c_long, c_void};
 use std::hint::black_box;
@@ -170,6 +173,61 @@ fn editing_stored(meter: &mut Meter, c: &Case) {
     edit(meter, c, "stored-cut", Sides(original::stored_cut, TagRows::stored_cut, Session::stored_cut), Seq(&s.seq, &s.window, cut));
 }
 
+/// A call on a record: the Rust's, which changes it, and Rattle's, which writes a new one to a lent row.
+#[derive(Clone, Copy)]
+struct OnRecord(fn(&Rust, &mut Vec<u8>, &Records) -> bool, fn(&mut RecordRow, &[u8], &Records) -> u8);
+
+/// Measures a call on a record, and returns what it leaves. The Rust works in place, so each counted call has its own record, restored
+/// before. On the side "copied" it works on a copy that is made and freed in the call, as if the caller needed the old record too.
+fn on_record(meter: &mut Meter, c: &Case, row: &str, OnRecord(rust, rattle): OnRecord, record: &Vec<u8>, r: &Records) -> Vec<u8> {
+    let mut left = record.clone();
+    let went = rust(&RUST, &mut left, r);
+    let check = |who: &str, answer: (bool, &[u8])| assert!(answer == (went, &left), "{who}, {row} of {} bases", c.bases);
+
+    for (who, over) in [("rust", &RUST), ("quick", &QUICK)] {
+        let all = RefCell::new(vec![record.clone(); calls_a_round(c)]);
+        let restore = || all.borrow_mut().iter_mut().for_each(|own| own.clone_from(record));
+        meter.side(c, row, who, restore, |i| assert_eq!(rust(over, black_box(&mut all.borrow_mut()[i]), black_box(r)), went));
+        all.borrow().iter().for_each(|own| check(who, (went, own)));
+    }
+    meter.side(c, row, "copied", || {}, |_| {
+        let mut own = black_box(record).clone();
+        assert_eq!(rust(&QUICK, &mut own, black_box(r)), went);
+        drop(black_box(own));
+    });
+
+    for (who, room) in [("rattle", record.len() + GROWTH), ("exact", left.len())] {
+        let mut lent = RecordRow::new(room);
+        meter.side(c, row, who, || {}, |_| assert_eq!(rattle(&mut lent, black_box(record), black_box(r)), 0));
+        check(who, lent.answer());
+    }
+    left
+}
+
+/// Records whose tag is edited, reverse and forward, and records that stay as they came.
+fn on_records(meter: &mut Meter, c: &Case) {
+    let mask = OnRecord(Rust::mask, RecordRow::mask);
+    for (reverse, which) in [(true, ""), (false, "-forward")] {
+        let r = Records::new(c, reverse);
+        let edits = [
+            ("mask", mask, &r.masked),
+            ("drop", OnRecord(Rust::drop_calls, RecordRow::drop_calls), &r.whole),
+            ("cut", OnRecord(Rust::cut, RecordRow::cut), &r.cut),
+        ];
+        for (name, call, record) in edits {
+            let left = on_record(meter, c, &format!("record-{name}{which}"), call, record, &r);
+            assert!(has_modification_tags(&left), "a record of {} bases keeps its tags", c.bases);
+            // Few bases in sparse tags: a drop may name no listed base.
+            assert!(left != *record || name == "drop", "{name} edits a record of {} bases", c.bases);
+        }
+    }
+    let r = Records::new(c, true);
+    for (row, record) in [("record-same", &r.whole), ("record-untagged", &r.untagged)] {
+        let left = on_record(meter, c, row, mask, record, &r);
+        assert!(left == *record, "a record of {} bases stays as it came", c.bases);
+    }
+}
+
 fn building(meter: &mut Meter, c: &Case) {
     meter.side(c, "build", "rust", || {}, |_| drop(black_box(original::build(black_box(c)))));
     let mut rows = TagRows::new(c);
@@ -196,6 +254,7 @@ fn measure(meter: &mut Meter, c: &Case) {
     counting(meter, c);
     reading_stored(meter, c);
     editing_stored(meter, c);
+    on_records(meter, c);
 }
 
 fn main() {

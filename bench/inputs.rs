@@ -135,11 +135,15 @@ fn reads(seq: &[u8], random: &mut Random) -> Reads {
     }
 }
 
-/// The bases turned and packed, by the codes of SAM v1. A spare half is 0.
-pub fn turned_and_packed(seq: &[u8]) -> Vec<u8> {
+/// The bases two to a byte, by the codes of SAM v1. A spare half is 0.
+pub fn packed(seq: &[u8]) -> Vec<u8> {
     let code = |base: &u8| b"=ACMGRSVTWYHKDBN".iter().position(|letter| letter == base).expect("a letter of SAM") as u8;
     let pair = |two: &[u8]| code(&two[0]) * 16 + two.get(1).map_or(0, code);
-    reverse_complement(seq).chunks(2).map(pair).collect()
+    seq.chunks(2).map(pair).collect()
+}
+
+pub fn turned_and_packed(seq: &[u8]) -> Vec<u8> {
+    packed(&reverse_complement(seq))
 }
 
 /// `places` rise in read orientation, and so do those of the stored read.

@@ -15,6 +15,9 @@ ROWS = ["read", "mask", "drop", "cut", "build", "count"]
 EDITS = ["mask", "drop", "cut"]
 ALONE = ["check", "tally"]
 STORED = ["read", "check", "tally", "mask", "drop", "cut"]
+STRANDS = [("reverse", ""), ("forward", "-forward")]
+# Records that stay as they came. Without tags a record has no density.
+STAYS = [("mask, same SEQ", "record-same", DENSITIES), ("mask, no tags", "record-untagged", ["dense"])]
 TURNED = ["turn", "unpack", "unpack-forward"]
 TURNED_SIZES = ["150", "151", "1000", "1001", "15999", "16000"]
 
@@ -103,6 +106,23 @@ def stored(cost):
     return markdown(head, lines)
 
 
+def records(cost):
+    """The calls on records, beside the Rust's over two sets of stand-ins."""
+    head = ["call", "bases", "tags", "strand", "Rust", "quick", "copied", "Rattle", "x Rust", "x quick", "x copied", "exact room", "x quick"]
+
+    def line(name, row, bases, density, strand):
+        rust, quick, copied, rattle, exact = ((row, bases, density, who) for who in ("rust", "quick", "copied", "rattle", "exact"))
+        counts = [number(cost, side) for side in (rust, quick, copied, rattle)]
+        ratios = [ratio(cost, rattle, to) for to in (rust, quick, copied)]
+        tags = "none" if row == "record-untagged" else density
+        return [name, f"{int(bases):,}", tags, strand, *counts, *ratios, number(cost, exact), ratio(cost, exact, quick)]
+
+    lines = [line(row, f"record-{row}{which}", bases, density, strand)
+             for row in EDITS for bases in SIZES for density in DENSITIES for strand, which in STRANDS]
+    lines += [line(name, row, bases, density, "reverse") for name, row, densities in STAYS for bases in SIZES for density in densities]
+    return markdown(head, lines)
+
+
 def short_turned(cost):
     """Only ratios, of turning and unpacking, with a column for each length."""
     head = ["x the Rust's"] + [f"{int(bases):,}" for bases in TURNED_SIZES]
@@ -128,6 +148,8 @@ def short(cost):
     for row in EDITS:
         kept = f"stored-{row}"
         lines += [line(f"{row}, stored", kept), line(f"{row}, stored, a session's step", kept, who="session")]
+    lines += [line(f"{row}, record", f"record-{row}", to="quick") for row in EDITS]
+    lines += [line(f"{name}, record", row, to="quick") for name, row, _ in STAYS]
     return markdown(head, lines) + "\n" + short_turned(cost)
 
 
@@ -150,11 +172,12 @@ def main():
     time, spread = times(out)
     said = f"Largest distance of one of the runs from the median: {100 * spread:.0f} %.\n"
     for name, cost in ("Instructions", count), ("Nanoseconds", time):
-        print(f"{name}\n\n{whole(cost)}\n{stored(cost)}")
+        print(f"{name}\n\n{whole(cost)}\n{stored(cost)}\n{records(cost)}")
     print(said)
     if write:
         put("docs/BENCHMARKS.md", "instructions", whole(count))
         put("docs/BENCHMARKS.md", "stored reads", stored(count))
+        put("docs/BENCHMARKS.md", "records", records(count))
         put("docs/BENCHMARKS.md", "times", short(time) + "\n" + said)
         put("docs/BENCHMARKS.md", "ratios", short(count))
 
