@@ -39,7 +39,7 @@ pub fn alone_fate(
     if accepted {
         return 2;
     }
-    1 // refused: the text goes
+    1
 }
 
 // What becomes of MM, whose ML is at another byte: 0 no text, 1 it goes, 2 it is edited alone, 3 it is edited with ML.

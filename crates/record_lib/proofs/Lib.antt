@@ -1,1 +1,4 @@
 pub mod HandedRecords
+pub mod RecordCited
+pub mod Refused
+pub mod Unique

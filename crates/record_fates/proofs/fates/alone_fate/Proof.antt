@@ -3,11 +3,13 @@
 use mathlib.Core.Path.{_∙_, _≡_, refl, sym}
 use mathlib.Core.Bool.{true, false}
 use mathlib.Core.List.{[]}
-use Prim.Native.Nat.{_≤_}
+use Prim.Native.Nat.{_+_, _-_, _≤_}
+use lib.ListN.{drop, take}
 use native.Mathlib.Omega.{arith}
 use borrow.Author.Needs.{needs}
 use borrow.Author.Tests.{not-false, not-true}
 use Rattle.record_fates.proofs.FateLaws.{alone-edited, alone-goes, alone-none, alone-other, guarded-not, guarded-so, part-least, text-bound}
+use Rattle.lent.specs.Answers.{isDone}
 use Rattle.record_fates.specs.Fates.{guarded}
 use Rattle.record_tags.specs.Changes.{TagEdit}
 use Rattle.record_tags.specs.Plans.{byWindow}
@@ -86,18 +88,22 @@ returns-4 c =
     let s = c .before .before .before .before .before .before .before .before .before .before .before .before in
     let a = s .args in
     let w = c .before .accepts in
+    let text = take ((a .at + a .size - 1) - (a .at + 3)) (drop (a .at + 3) (a .bam .now)) in
+    let told : w .result ≡ isDone (whole s false text []) = w .ensures in
     sym
     (alone-edited (a .bam .now) (a .at) (a .size) (s .pre .0) (s .pre .1) (edit s) (λ q. omega arith) (omega arith)
-    (guarded-so (a .possible) (whole s) false _ [] (not-false (a .possible) (c .before .before .before .before .if3 .left)) (w .result) (w .ensures) ∙ c .if4 .taken))
+    (guarded-so (a .possible) (whole s) false text [] (not-false (a .possible) (c .before .before .before .before .if3 .left)) (w .result) told ∙ c .if4 .taken))
 
 returns-5 : tie.Need-returns-5
 returns-5 c =
     let s = c .before .before .before .before .before .before .before .before .before .before .before .before in
     let a = s .args in
     let w = c .before .accepts in
+    let text = take ((a .at + a .size - 1) - (a .at + 3)) (drop (a .at + 3) (a .bam .now)) in
+    let told : w .result ≡ isDone (whole s false text []) = w .ensures in
     sym
     (alone-goes (a .bam .now) (a .at) (a .size) (s .pre .0) (s .pre .1) (edit s) (λ q. omega arith) (omega arith)
-    (guarded-so (a .possible) (whole s) false _ [] (not-false (a .possible) (c .before .before .before .before .if3 .left)) (w .result) (w .ensures) ∙ c .if4 .left))
+    (guarded-so (a .possible) (whole s) false text [] (not-false (a .possible) (c .before .before .before .before .if3 .left)) (w .result) told ∙ c .if4 .left))
 
 pub alone-fate-spec : {M : Type 1} → statement M
 alone-fate-spec =
