@@ -1,1 +1,5 @@
 pub mod RecordLaws
+pub mod Cited
+pub mod Unique
+pub mod Numbers
+pub mod Refused

@@ -274,14 +274,5 @@ pub fn cut_record(
     if stale {
         return remove_record(bam, head.fields_at, out);
     }
-    cut_opened(
-        bam,
-        head,
-        &ats,
-        &sizes,
-        before,
-        before_reverse,
-        start,
-        out,
-    )
+    cut_opened(bam, head, &ats, &sizes, before, before_reverse, start, out)
 }

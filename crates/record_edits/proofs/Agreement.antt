@@ -58,7 +58,7 @@ text-there (x ∷ xs) t = refl
 
 module _ (possible : Bool) (edit : TagEdit) (mm-text ml-values : List ℕ) (n : ℕ) (set : Bool) (fs : List Field)
     (known : pairFate (guarded possible edit) (firstNamed 0 fs) (firstNamed 1 fs) ≡ 3
-        → (mm-text ≡ textOf (firstNamed 0 fs)) × (ml-values ≡ valuesOf (firstNamed 1 fs))) where
+    → (mm-text ≡ textOf (firstNamed 0 fs)) × (ml-values ≡ valuesOf (firstNamed 1 fs))) where
   abbrev m : Means
   m = means edit mm-text ml-values n
 
@@ -77,7 +77,7 @@ module _ (possible : Bool) (edit : TagEdit) (mm-text ml-values : List ℕ) (n : 
   unplanned : (k : ℕ) → 5 ≤ k → planned m plan k ≡ []
   unfolding planned queueBy
   unplanned k h = rw (past-plan (pairFate g (firstNamed 0 fs) (firstNamed 1 fs)) (arrayFate (pairFate g (firstNamed 0 fs) (firstNamed 1 fs)))
-    (lengthFate (pairFate g (firstNamed 0 fs) (firstNamed 1 fs)) set) (aloneFate g (firstNamed 3 fs)) (aloneFate g (firstNamed 4 fs)) k h)
+      (lengthFate (pairFate g (firstNamed 0 fs) (firstNamed 1 fs)) set) (aloneFate g (firstNamed 3 fs)) (aloneFate g (firstNamed 4 fs)) k h)
 
   unasked : (k : ℕ) → 5 ≤ k → asked k ≡ []
   unfolding editing
@@ -147,8 +147,11 @@ module _ (possible : Bool) (edit : TagEdit) (mm-text ml-values : List ℕ) (n : 
     alone-ready f fits =
         by-test (isText f)
         (λ t. by-test (isDone (guarded possible edit false (textOf f) []))
-        (λ d. rw (t, d) (and-true (isDone (edit false (textOf f) [])) _ (ap isDone (sym (guarded-done possible (edit false (textOf f) []) d)) ∙ d)
-        (le-leb (length (textOf f)) 65536 (fits t)), refl))
+        (λ d. rw (t, d) (
+          and-true (isDone (edit false (textOf f) [])) _ (ap isDone (sym (guarded-done possible (edit false (textOf f) []) d)) ∙ d)
+              (le-leb (length (textOf f)) 65536 (fits t)),
+          refl,
+        ))
         (λ d. rw (t, d) (refl, refl)))
         (λ t. rw t (refl, refl))
 

@@ -115,8 +115,26 @@ pub fn edit_record(
         lo,
         possible,
     );
-    let am = record_fates::fates::alone_fate(bam, ats[3], sizes[3], seq, after, marks, lo, possible);
-    let bm = record_fates::fates::alone_fate(bam, ats[4], sizes[4], seq, after, marks, lo, possible);
+    let am = record_fates::fates::alone_fate(
+        bam,
+        ats[3],
+        sizes[3],
+        seq,
+        after,
+        marks,
+        lo,
+        possible,
+    );
+    let bm = record_fates::fates::alone_fate(
+        bam,
+        ats[4],
+        sizes[4],
+        seq,
+        after,
+        marks,
+        lo,
+        possible,
+    );
     let plan = record_fates::fates::plan_of(mm, am, bm, set);
     let went = any_goes(mm, am, bm);
     let text = paired_text(bam, ats[0], sizes[0], mm);

@@ -140,10 +140,12 @@ module _ (bam : List ℕ) (k : ℕ) (ats sizes : List ℕ) (h : Head) (o : Opene
       → ((h .«fields_at» ≤ length bam) × (isDone (fields (drop (h .«fields_at») bam)) ≡ true) × Spots bam (fieldsOf (drop (h .«fields_at») bam)) ats sizes
       × (length seq ≤ 16000)) × ((j : ℕ) × (inDomain (h .bases) j (fieldsOf (drop (h .«fields_at») bam)) ≡ true))
   edit-needs seq l = (
-    (begins,
-    subst (λ (i : ℕ). isDone (fields (drop i bam)) ≡ true) (sym (o .1 .3)) (o .2),
-    subst (λ (i : ℕ). Spots bam (fieldsOf (drop i bam)) ats sizes) (sym (o .1 .3)) (o .3),
-    l),
+    (
+      begins,
+      subst (λ (i : ℕ). isDone (fields (drop i bam)) ≡ true) (sym (o .1 .3)) (o .2),
+      subst (λ (i : ℕ). Spots bam (fieldsOf (drop i bam)) ats sizes) (sym (o .1 .3)) (o .3),
+      l,
+    ),
     (k, (λ j. inDomain (o .1 .1 j) k (fieldsOf (drop (o .1 .3 j) bam))) ∙ o .4),
   )
 

@@ -133,7 +133,13 @@ fn same_direction(reverse: bool, before_reverse: bool) -> bool
 }
 
 // The start of the window in read orientation; unknown if the read was stored in the other direction.
-fn start_of(start: WindowStart, reverse: bool, before_reverse: bool, k: usize, n: usize) -> WindowStart
+fn start_of(
+    start: WindowStart,
+    reverse: bool,
+    before_reverse: bool,
+    k: usize,
+    n: usize,
+) -> WindowStart
     ensures { λ r. ⌜ startSays r ≡ cond (eqb k n) (some 0) (startOf reverse «before_reverse» k n (startSays start)) ⌝ }
 {
     if k == n {
@@ -221,7 +227,17 @@ pub fn cut_with(
         return keep_record(bam, out);
     }
     let begin = start_of(start, head.reverse, before_reverse, k, n);
-    cut_turned(bam, head, ats, sizes, &first[0..k], &second[0..n], begin, work, out)
+    cut_turned(
+        bam,
+        head,
+        ats,
+        sizes,
+        &first[0..k],
+        &second[0..n],
+        begin,
+        work,
+        out,
+    )
 }
 
 // Whether there is an MM, am or bm, by how many bytes the first field of each name takes.

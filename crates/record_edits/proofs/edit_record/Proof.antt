@@ -38,10 +38,17 @@ pair-fate-requires c κs =
     let x = a .bam .now in
     let at = a .ats .now in
     let size = a .sizes .now in (
-      (p .2 0 (omega arith) .1, sound x (a .from) at size (a .bases) (i .0) (p .1) (p .2) (i .1) 0 (omega arith),
-      ap textFits (p .2 0 (omega arith) .0) ∙ mm-fits x (a .from) at size (a .bases) (i .0) (p .1) (p .2) (i .1), p .3),
-      (p .2 1 (omega arith) .1, sound x (a .from) at size (a .bases) (i .0) (p .1) (p .2) (i .1) 1 (omega arith),
-      ap arrayFits (p .2 1 (omega arith) .0) ∙ ml-fits x (a .from) at size (a .bases) (i .0) (p .1) (p .2) (i .1)),
+      (
+        p .2 0 (omega arith) .1,
+        sound x (a .from) at size (a .bases) (i .0) (p .1) (p .2) (i .1) 0 (omega arith),
+        ap textFits (p .2 0 (omega arith) .0) ∙ mm-fits x (a .from) at size (a .bases) (i .0) (p .1) (p .2) (i .1),
+        p .3,
+      ),
+      (
+        p .2 1 (omega arith) .1,
+        sound x (a .from) at size (a .bases) (i .0) (p .1) (p .2) (i .1) 1 (omega arith),
+        ap arrayFits (p .2 1 (omega arith) .0) ∙ ml-fits x (a .from) at size (a .bases) (i .0) (p .1) (p .2) (i .1),
+      ),
     )
 
 element-copy-out-alone-fate : tie.Need-element-copy-out-alone-fate
@@ -141,10 +148,13 @@ write-record-requires c κs =
     let z = w .before .before .before .before .before .before .before .plan-of in
     let g = w .before .before .before .before .before .before .any-goes in (
       (p .0, p .3, w .before .before .before .paired-text .ensures .1, w .paired-values .ensures .1, bases-fit (a .bam .now) (a .from) (a .ats .now) (a .sizes .now) (a .bases) (i .0) (p .1) (p .2) (i .1)),
-      (p .1, edit-ready (a .bam .now) (a .from) (a .ats .now) (a .sizes .now) (a .bases) (i .0) (p .1) (p .2) (i .1)
-          (a .possible) (byWindow (a .lo) (a .after .now) (a .marks .now) (a .seq .now)) (a .set) (f .result) (x .result) (y .result) (z .result) (g .result)
-          (w .before .before .before .paired-text .result .now) (w .paired-values .result .now) (f .ensures) (x .ensures) (y .ensures) (z .ensures) (g .ensures)
-          (w .before .before .before .paired-text .ensures .0) (w .paired-values .ensures .0)),
+      (
+        p .1,
+        edit-ready (a .bam .now) (a .from) (a .ats .now) (a .sizes .now) (a .bases) (i .0) (p .1) (p .2) (i .1)
+            (a .possible) (byWindow (a .lo) (a .after .now) (a .marks .now) (a .seq .now)) (a .set) (f .result) (x .result) (y .result) (z .result) (g .result)
+            (w .before .before .before .paired-text .result .now) (w .paired-values .result .now) (f .ensures) (x .ensures) (y .ensures) (z .ensures) (g .ensures)
+            (w .before .before .before .paired-text .ensures .0) (w .paired-values .ensures .0),
+      ),
     )
 
 same-length : tie.Need-same-length
