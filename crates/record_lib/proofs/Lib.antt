@@ -1,4 +1,5 @@
 pub mod HandedRecords
+pub mod Numbers
 pub mod RecordCited
 pub mod Refused
 pub mod Unique
