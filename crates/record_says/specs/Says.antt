@@ -1,0 +1,53 @@
+-- What the theorems about the three calls on a record say.
+-- Assumes nothing.
+use mathlib.Core.Path.{_≡_}
+use Prim.Native.Nat.{ℕ}
+use mathlib.Core.Bool.{Bool, true, not, _&&_}
+use mathlib.Core.List.{List, [], _∷_}
+use lib.Dec.{leb, eqb}
+use lib.ListN.{length, take, drop}
+use Rattle.lent.specs.Lists.{any, every, filter, isEmpty}
+use Rattle.lent.specs.Outcome.{done}
+use Rattle.record_fields.specs.Bam.{headSize, isReverse, isWhole, packedSeq, seqLength}
+use Rattle.record_fields.specs.Fields.{Field, anyOther, fields, fieldsOf, firstNamed, nameOf}
+
+-- the bytes of a record after its head, qualities included
+abbrev pub tail : List ℕ → List ℕ
+tail bam = drop (headSize bam) bam
+
+-- the fields of a record
+abbrev pub fieldsIn : List ℕ → List Field
+fieldsIn bam = fieldsOf (tail bam)
+
+-- the name is none of MM, ML, MN, am and bm
+abbrev pub isOther : Field → Bool
+isOther f = eqb (nameOf f) anyOther
+
+-- Everything before the fields is as it was, and so are the fields of every other name, in the same order.
+pub record Untouched (old new : List ℕ) : Type 0 where
+  pub front : take (headSize old) new ≡ take (headSize old) old
+  pub head-size : headSize new ≡ headSize old
+  pub length-of-seq : seqLength new ≡ seqLength old
+  pub strand : isReverse new ≡ isReverse old
+  pub seq : packedSeq new ≡ packedSeq old
+  pub others : filter isOther (fieldsIn new) ≡ filter isOther (fieldsIn old)
+
+-- The record is whole, and its fields parse to these.
+pub record ParsesTo (bam : List ℕ) (fs : List Field) : Type 0 where
+  pub whole : isWhole bam ≡ true
+  pub parsed : fields (tail bam) ≡ done fs
+
+-- how many fields have the name
+abbrev pub times : ℕ → List Field → ℕ
+times k fs = length (filter (λ (f : Field). eqb (nameOf f) k) fs)
+
+abbrev pub fiveNames : List ℕ
+fiveNames = 0 ∷ 1 ∷ 2 ∷ 3 ∷ 4 ∷ []
+
+-- none of the five names is there twice
+abbrev pub noneTwice : List Field → Bool
+noneTwice fs = every (λ k. leb (times k fs) 1) fiveNames
+
+-- the name was there, and is there no more
+abbrev pub isGone : List Field → List Field → ℕ → Bool
+isGone old new k = not (isEmpty (firstNamed k old)) && isEmpty (firstNamed k new)
