@@ -1,3 +1,6 @@
 pub mod Pieces
 pub mod Texts
 pub mod Edits
+pub mod Made
+pub mod Parses
+pub mod Stays

@@ -2,14 +2,16 @@
 -- Assumes nothing.
 use mathlib.Core.Path.{_≡_}
 use Prim.Native.Nat.{ℕ}
-use mathlib.Core.Bool.{Bool, true, not, _&&_}
+use mathlib.Core.Bool.{Bool, true, false, not, _&&_}
 use mathlib.Core.List.{List, [], _∷_}
+use mathlib.Core.Option.{Option}
 use lib.Dec.{leb, eqb}
 use lib.ListN.{length, take, drop}
 use Rattle.lent.specs.Lists.{any, every, filter, isEmpty}
-use Rattle.lent.specs.Outcome.{done}
+use Rattle.lent.specs.Outcome.{Outcome, andThen, done}
 use Rattle.record_fields.specs.Bam.{headSize, isReverse, isWhole, packedSeq, seqLength}
 use Rattle.record_fields.specs.Fields.{Field, anyOther, fields, fieldsOf, firstNamed, nameOf}
+use Rattle.record_tags.specs.Records.{Finished, cutFields, cutRecord, dropFields, dropRecord, inRoom, maskFields, maskRecord}
 
 -- the bytes of a record after its head, qualities included
 abbrev pub tail : List ℕ → List ℕ
@@ -22,6 +24,22 @@ fieldsIn bam = fieldsOf (tail bam)
 -- the name is none of MM, ML, MN, am and bm
 abbrev pub isOther : Field → Bool
 isOther f = eqb (nameOf f) anyOther
+
+-- the fields after each of the three calls, as its definition says
+abbrev pub maskedFields : List ℕ → List ℕ → List Field
+maskedFields bam before = maskFields (isReverse bam) (seqLength bam) (packedSeq bam) before (fieldsIn bam)
+
+abbrev pub droppedFields : List ℕ → List ℕ → List Field
+droppedFields bam places = dropFields (isReverse bam) (seqLength bam) (packedSeq bam) places (fieldsIn bam)
+
+abbrev pub cutFieldsOf : List ℕ → List ℕ → Bool → Option ℕ → List Field
+cutFieldsOf bam before before-reverse start = cutFields (isReverse bam) (seqLength bam) (packedSeq bam) before before-reverse start (fieldsIn bam)
+
+-- One of the three calls on the record was done, and this is the new record.
+pub data Remade (bam : List ℕ) (r : Finished) : Type 0 where
+  masked : (before : List ℕ) (room : ℕ) → maskRecord bam before room ≡ done r → Remade bam r
+  dropped : (places : List ℕ) (room : ℕ) → dropRecord bam places room ≡ done r → Remade bam r
+  cut : (before : List ℕ) (before-reverse : Bool) (start : Option ℕ) (room : ℕ) → cutRecord bam before before-reverse start room ≡ done r → Remade bam r
 
 -- Everything before the fields is as it was, and so are the fields of every other name, in the same order.
 pub record Untouched (old new : List ℕ) : Type 0 where
@@ -51,3 +69,12 @@ noneTwice fs = every (λ k. leb (times k fs) 1) fiveNames
 -- the name was there, and is there no more
 abbrev pub isGone : List Field → List Field → ℕ → Bool
 isGone old new k = not (isEmpty (firstNamed k old)) && isEmpty (firstNamed k new)
+
+-- every byte as it came, and no field went
+pub record AsItCame (bam : List ℕ) (r : Finished) : Type 0 where
+  pub bytes-same : r .bytes ≡ bam
+  pub none-went : r .went ≡ false
+
+-- a finished record asked for room: 12 if it is longer, else the record
+abbrev pub withRoom : ℕ → Outcome Finished → Outcome Finished
+withRoom room o = andThen o (inRoom room)
