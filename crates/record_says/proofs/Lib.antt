@@ -4,3 +4,5 @@ pub mod Edits
 pub mod Made
 pub mod Parses
 pub mod Stays
+pub mod AsCame
+pub mod Went

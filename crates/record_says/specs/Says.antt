@@ -9,6 +9,8 @@ use lib.Dec.{leb, eqb}
 use lib.ListN.{length, take, drop}
 use Rattle.lent.specs.Lists.{any, every, filter, isEmpty}
 use Rattle.lent.specs.Outcome.{Outcome, andThen, done}
+use Rattle.packed.specs.Packed.{unpack}
+use Rattle.packed.specs.Stored.{inRead}
 use Rattle.record_fields.specs.Bam.{headSize, isReverse, isWhole, packedSeq, seqLength}
 use Rattle.record_fields.specs.Fields.{Field, anyOther, fields, fieldsOf, firstNamed, nameOf}
 use Rattle.record_tags.specs.Records.{Finished, cutFields, cutRecord, dropFields, dropRecord, inRoom, maskFields, maskRecord}
@@ -20,6 +22,13 @@ tail bam = drop (headSize bam) bam
 -- the fields of a record
 abbrev pub fieldsIn : List ℕ → List Field
 fieldsIn bam = fieldsOf (tail bam)
+
+-- SEQ, as it is stored and in read orientation
+abbrev pub storedSeq : List ℕ → List ℕ
+storedSeq bam = unpack (seqLength bam) (packedSeq bam)
+
+abbrev pub readSeq : List ℕ → List ℕ
+readSeq bam = inRead (isReverse bam) (seqLength bam) (packedSeq bam)
 
 -- the name is none of MM, ML, MN, am and bm
 abbrev pub isOther : Field → Bool
