@@ -6,3 +6,4 @@ pub mod Parses
 pub mod Stays
 pub mod AsCame
 pub mod Went
+pub mod Roomy

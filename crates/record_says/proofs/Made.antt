@@ -66,11 +66,11 @@ pub record Made (n : ℕ) (bam : List ℕ) (new : List Field) (r : Finished) : T
   pub each : Each n (fieldsIn bam) new
   pub is : r ≡ finished bam (fieldsIn bam) new
 
-parsed-are : (bytes : List ℕ) (fs : List Field) → fields bytes ≡ done fs → fs ≡ fieldsOf bytes
+pub parsed-are : (bytes : List ℕ) (fs : List Field) → fields bytes ≡ done fs → fs ≡ fieldsOf bytes
 unfolding fieldsOf
 parsed-are bytes fs e = rw e
 
-array-fits : (n k : ℕ) (fs : List Field) → inDomain n k fs ≡ true → arrayFits (firstNamed ML fs) ≡ true
+pub array-fits : (n k : ℕ) (fs : List Field) → inDomain n k fs ≡ true → arrayFits (firstNamed ML fs) ≡ true
 unfolding inDomain
 array-fits n k fs h =
     let lengths = leb n 16000 && leb k 16000 && textFits (firstNamed MM fs) in
