@@ -180,18 +180,18 @@ module _ (edit : TagEdit) (tidy : Tidy edit) where
         unasked k h =
             rw (ne-eqb k 0 (λ e. omega (arith, e)), ne-eqb k 1 (λ e. omega (arith, e)), ne-eqb k 2 (λ e. omega (arith, e)), ne-eqb k 3 (λ e. omega (arith, e)), ne-eqb k 4 (λ e. omega (arith, e)))
 
-lengths-none : (n : ℕ) (b : Bool) → Lengths n (cond b (changes.goes ∷ []) [] ++ lengthSets none)
+pub lengths-none : (n : ℕ) (b : Bool) → Lengths n (cond b (changes.goes ∷ []) [] ++ lengthSets none)
 lengths-none n true = gone
 lengths-none n false = idle
 
-lengths-some : (len b : Bool) (n : ℕ) → Lengths 3 (cond b (changes.goes ∷ []) [] ++ lengthSets (cond len none (some n)))
+pub lengths-some : (len b : Bool) (n : ℕ) → Lengths 3 (cond b (changes.goes ∷ []) [] ++ lengthSets (cond len none (some n)))
 lengths-some true b n = lengths-none 3 b
 lengths-some false true n = gone-sets n
 lengths-some false false n = sets n
 
 -- ---- removal
 
-removal-sound : (n : ℕ) (fs : List Field) → every isField fs ≡ true → Sound n removal fs
+pub removal-sound : (n : ℕ) (fs : List Field) → every isField fs ≡ true → Sound n removal fs
 unfolding removal
 removal-sound n fs are = record {
   lengths = gone;

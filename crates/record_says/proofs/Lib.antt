@@ -7,3 +7,6 @@ pub mod Stays
 pub mod AsCame
 pub mod Went
 pub mod Roomy
+pub mod Firsts
+pub mod Held
+pub mod Lists

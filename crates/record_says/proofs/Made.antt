@@ -63,6 +63,7 @@ module _ (old new : List ℕ) (same : take (headSize old) new ≡ take (headSize
 pub record Made (n : ℕ) (bam : List ℕ) (new : List Field) (r : Finished) : Type 0 where
   pub whole : isWhole bam ≡ true
   pub parsed : fields (tail bam) ≡ done (fieldsIn bam)
+  pub fits : arrayFits (firstNamed ML (fieldsIn bam)) ≡ true
   pub each : Each n (fieldsIn bam) new
   pub is : r ≡ finished bam (fieldsIn bam) new
 
@@ -89,10 +90,12 @@ made n bam k room new each r e =
     let e3 = need-rest (inDomain (seqLength bam) k fs) 1 _ r e2 in
     let is : finished bam fs (new fs) ≡ r = done-inj (need-rest (leb (length (finished bam fs (new fs) .bytes)) room) 12 _ r e3) in
     let same = parsed-are (tail bam) fs parsed in
+    let fits = array-fits (seqLength bam) k fs domain in
     record {
       whole = whole;
       parsed = parsed ∙ ap done same;
-      each = subst (λ (l : List Field). Each n l (new l)) same (each fs (fields-each (tail bam) fs parsed) (array-fits (seqLength bam) k fs domain));
+      fits = subst (λ (l : List Field). arrayFits (firstNamed ML l) ≡ true) same fits;
+      each = subst (λ (l : List Field). Each n l (new l)) same (each fs (fields-each (tail bam) fs parsed) fits);
       is = sym is ∙ ap (λ (l : List Field). finished bam l (new l)) same;
     }
 

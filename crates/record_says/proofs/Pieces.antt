@@ -82,7 +82,7 @@ length-more f fs gs (sets b) l i k =
     (λ e. rw e (stay (k 3 idle)))
 length-more f fs gs (gone-sets b) l i k = go l (k 3 (sets b))
 
-sound-next : {n : ℕ} (c : Changes) (f : Field) (fs : List Field) → Sound n c (f ∷ fs) → (m : ℕ) → Lengths m (after (nameOf f) c MN)
+pub sound-next : {n : ℕ} (c : Changes) (f : Field) (fs : List Field) → Sound n c (f ∷ fs) → (m : ℕ) → Lengths m (after (nameOf f) c MN)
     → Sound m (after (nameOf f) c) fs
 sound-next c f fs s m l = record { lengths = l; first = first; later = later }
   where

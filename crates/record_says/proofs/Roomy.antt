@@ -50,6 +50,7 @@ module _ (n : ℕ) (bam : List ℕ) (k : ℕ) (new : List Field → List Field)
       let made : Made n bam (new (fieldsIn bam)) (finished bam (fieldsIn bam) (new (fieldsIn bam))) = record {
         whole = whole;
         parsed = parsed ∙ ap done same;
+        fits = subst (λ (l : List Field). arrayFits (firstNamed ML l) ≡ true) same (array-fits (seqLength bam) k fs domain);
         each = subst (λ (l : List Field). Each n l (new l)) same (each fs (fields-each (tail bam) fs parsed) (array-fits (seqLength bam) k fs domain));
         is = refl;
       } in

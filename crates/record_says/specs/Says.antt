@@ -2,7 +2,7 @@
 -- Assumes nothing.
 use mathlib.Core.Path.{_≡_}
 use Prim.Native.Nat.{ℕ}
-use mathlib.Core.Bool.{Bool, true, false, not, _&&_}
+use mathlib.Core.Bool.{Bool, true, false, not, _&&_, _||_}
 use mathlib.Core.List.{List, [], _∷_}
 use mathlib.Core.Option.{Option}
 use lib.Dec.{leb, eqb}
@@ -12,8 +12,11 @@ use Rattle.lent.specs.Outcome.{Outcome, andThen, done}
 use Rattle.packed.specs.Packed.{unpack}
 use Rattle.packed.specs.Stored.{inRead}
 use Rattle.record_fields.specs.Bam.{headSize, isReverse, isWhole, packedSeq, seqLength}
-use Rattle.record_fields.specs.Fields.{Field, anyOther, fields, fieldsOf, firstNamed, nameOf}
+use Rattle.record_fields.specs.Fields.{Field, ML, MM, anyOther, fields, fieldsOf, firstNamed, nameOf}
 use Rattle.record_tags.specs.Records.{Finished, cutFields, cutRecord, dropFields, dropRecord, inRoom, maskFields, maskRecord}
+use Rattle.record_tags.specs.Values.{isByteArray, isText, textOf, valuesOf}
+use Rattle.samtags.specs.Reading.{lists}
+use Rattle.samtags.specs.Spots.{Listing}
 
 -- the bytes of a record after its head, qualities included
 abbrev pub tail : List ℕ → List ℕ
@@ -78,6 +81,29 @@ noneTwice fs = every (λ k. leb (times k fs) 1) fiveNames
 -- the name was there, and is there no more
 abbrev pub isGone : List Field → List Field → ℕ → Bool
 isGone old new k = not (isEmpty (firstNamed k old)) && isEmpty (firstNamed k new)
+
+-- ---- the tag: MM with its ML
+
+abbrev pub mmOf : List ℕ → Field
+mmOf bam = firstNamed MM (fieldsIn bam)
+
+abbrev pub mlOf : List ℕ → Field
+mlOf bam = firstNamed ML (fieldsIn bam)
+
+abbrev pub hasML : List ℕ → Bool
+hasML bam = not (isEmpty (mlOf bam))
+
+-- the record has a tag that can be edited: MM is a text, and its ML an array of bytes, if there is one
+abbrev pub hasTag : List ℕ → Bool
+hasTag bam = isText (mmOf bam) && (isEmpty (mlOf bam) || isByteArray (mlOf bam))
+
+-- what the record's tag lists over a SEQ in read orientation
+abbrev pub tagLists : List ℕ → List ℕ → Outcome (List Listing)
+tagLists seq bam = lists (hasML bam) seq (textOf (mmOf bam)) (valuesOf (mlOf bam))
+
+-- there are as many MM as there were
+abbrev pub keepsMM : List ℕ → List ℕ → Bool
+keepsMM old new = eqb (times MM (fieldsIn new)) (times MM (fieldsIn old))
 
 -- every byte as it came, and no field went
 pub record AsItCame (bam : List ℕ) (r : Finished) : Type 0 where
