@@ -101,7 +101,12 @@ hasTag bam = isText (mmOf bam) && (isEmpty (mlOf bam) || isByteArray (mlOf bam))
 abbrev pub tagLists : List ℕ → List ℕ → Outcome (List Listing)
 tagLists seq bam = lists (hasML bam) seq (textOf (mmOf bam)) (valuesOf (mlOf bam))
 
--- there are as many MM as there were
+-- The record has a tag, which the reader accepts over a SEQ in read orientation, and which lists this.
+pub record ListsOver (seq bam : List ℕ) (ls : List Listing) : Type 0 where
+  pub tagged : hasTag bam ≡ true
+  pub listed : tagLists seq bam ≡ done ls
+
+-- there are as many MM as there were: MM was edited, or stayed
 abbrev pub keepsMM : List ℕ → List ℕ → Bool
 keepsMM old new = eqb (times MM (fieldsIn new)) (times MM (fieldsIn old))
 
