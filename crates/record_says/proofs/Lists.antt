@@ -140,8 +140,99 @@ module _ (bam before : List ℕ) (room : ℕ) (r : Finished) (ls : List Listing)
 
 -- ---- a cut
 
--- where the window begins in SEQ before, in read orientation
-abbrev begins : Bool → ℕ → List ℕ → List ℕ → Bool → Option ℕ → Option ℕ
-begins reverse n packed before before-reverse start =
-    windowIn (windowStart (startOf reverse before-reverse (length before) n start) (turnedLetters before-reverse before) (inRead reverse n packed))
-    (turnedLetters before-reverse before) (inRead reverse n packed)
+-- a window that was found is one
+window-found : (w : Option ℕ) (before seq : List ℕ) (lo : ℕ) → windowIn w before seq ≡ some lo → (w ≡ some lo) × (liesIn seq (drop lo before) ≡ true)
+window-found none before seq lo e = let z : _≡_ {A = ℕ} 0 1 = cc in absurd (omega arith)
+window-found (some a) before seq lo e =
+    by-test (leb a (length before) && liesIn seq (drop a before))
+    (λ t.
+    let found : some a ≡ some lo = rw t at e in
+    let same : a ≡ lo = cc in
+    (found, subst (λ (k : ℕ). liesIn seq (drop k before) ≡ true) same (and-true-r (leb a (length before)) (liesIn seq (drop a before)) t)))
+    (λ t. let lost : none ≡ some lo = rw t at e in let z : _≡_ {A = ℕ} 0 1 = cc in absurd (omega arith))
+
+no-bases : (reverse before-reverse : Bool) (packed : List ℕ) → sameBytes (turnedLetters before-reverse []) (inRead reverse 0 packed) ≡ true
+unfolding turnedLetters inRead
+no-bases true true packed = refl
+no-bases true false packed = refl
+no-bases false true packed = refl
+no-bases false false packed = refl
+
+module _ (reverse : Bool) (n : ℕ) (packed before : List ℕ) (before-reverse : Bool) (start : Option ℕ) where
+  abbrev was : List ℕ
+  was = turnedLetters before-reverse before
+
+  abbrev now : List ℕ
+  now = inRead reverse n packed
+
+  -- where SEQ begins in SEQ before, in read orientation
+  abbrev begins : Option ℕ
+  begins = windowIn (windowStart (startOf reverse before-reverse (length before) n start) was now) was now
+
+  some-bases : sameBytes was now ≡ false → isEmpty before && eqb n 0 ≡ false
+  some-bases s = by-test (isEmpty before && eqb n 0) (λ q. absurd (none-there q)) (λ q. q)
+    where
+      none-there : isEmpty before && eqb n 0 ≡ true → ⊥
+      none-there q =
+          let b = no-place before (and-true-l (isEmpty before) (eqb n 0) q) in
+          let z = eqb-true n 0 (and-true-r (isEmpty before) (eqb n 0) q) in
+          let same : sameBytes was now ≡ true = (λ j. sameBytes (turnedLetters before-reverse (b j)) (inRead reverse (z j) packed)) ∙ no-bases reverse before-reverse packed in
+          let y : true ≡ false = sym same ∙ s in
+          let x : _≡_ {A = ℕ} 0 1 = cc in
+          omega (arith, x)
+
+  module _ (fs : List Field) where
+    abbrev cuts : ℕ → List Field
+    cuts lo = changed (editing (cutEdit lo was now) (cond (eqb (length before) n) none (some n)) fs) fs
+
+    found : (w : Option ℕ) → (orRemoval w fs cuts ≡ changed removal fs → ⊥) → (lo : ℕ) × (w ≡ some lo) × (orRemoval w fs cuts ≡ cuts lo)
+    found none h = absurd (h refl)
+    found (some lo) h = (lo, refl, refl)
+
+    cut-is : sameBytes was now ≡ false → isTagged fs ≡ true → (cutFields reverse n packed before before-reverse start fs ≡ changed removal fs → ⊥)
+        → (lo : ℕ) × (begins ≡ some lo) × (cutFields reverse n packed before before-reverse start fs ≡ cuts lo)
+    unfolding cutFields
+    cut-is s t h =
+        by-test (disagrees (length before) (firstNamed MN fs))
+        (λ d. absurd (h (rw (t, some-bases s, d))))
+        (λ d.
+        let is : cutFields reverse n packed before before-reverse start fs ≡ orRemoval begins fs cuts = rw (t, some-bases s, d, s) in
+        let (lo, q, there) = found begins (λ x. h (is ∙ x)) in
+        (lo, q, is ∙ there))
+
+module _ (bam before : List ℕ) (before-reverse : Bool) (start : Option ℕ) (room : ℕ) (r : Finished) (ls : List Listing)
+    (e : cutRecord bam before before-reverse start room ≡ done r) (keeps : keepsMM bam (r .bytes) ≡ true)
+    (old : ListsOver (turnedLetters before-reverse before) bam ls) (differs : sameBytes (turnedLetters before-reverse before) (readSeq bam) ≡ false) where
+  abbrev old-bases : List ℕ
+  old-bases = turnedLetters before-reverse before
+
+  abbrev starts : Option ℕ
+  starts = windowStart (startOf (isReverse bam) before-reverse (length before) (seqLength bam) start) old-bases (readSeq bam)
+
+  -- the window, the edit, and the tag that the new record holds
+  cut-held : (lo : ℕ) × (t : Tag) × (starts ≡ some lo) × (liesIn (readSeq bam) (drop lo old-bases) ≡ true)
+      × (edited (cutTo lo (readSeq bam)) (hasML bam) old-bases (textOf (mmOf bam)) (valuesOf (mlOf bam)) ≡ done t) × Holds bam (r .bytes) t
+  unfolding cutEdit
+  cut-held =
+      let tag = old .tagged in
+      let n = seqLength bam in
+      let made = cut-made bam before before-reverse start room r e in
+      let (lo, q, is) = cut-is (isReverse bam) n (packedSeq bam) before before-reverse start (fieldsIn bam) differs (is-tagged made tag keeps) (not-removed made tag keeps) in
+      let (at, lies) = window-found starts old-bases (readSeq bam) lo q in
+      let (t, edits, holds) = held made tag keeps (cutEdit lo old-bases (readSeq bam)) (cut-tidy lo old-bases (readSeq bam)) 3 (cond (eqb (length before) n) none (some n))
+      (λ b. lengths-some (eqb (length before) n) b n) is in
+      (lo, t, at, lies, edits, holds)
+
+  -- After a cut SEQ begins at a known place of SEQ before. The tag lists what it listed there, without the calls whose base is no longer in SEQ, and every
+  -- other call is as many places nearer to the front as were cut off before it.
+  pub cut-lists : (lo : ℕ) × (windowStart (startOf (isReverse bam) before-reverse (length before) (seqLength bam) start) (turnedLetters before-reverse before) (readSeq bam) ≡ some lo)
+      × ListsOver (readSeq (r .bytes)) (r .bytes) (map (callsHeldIn lo (readSeq bam)) ls)
+  cut-lists =
+      let (lo, t, at, lies, edits, holds) = cut-held in
+      let made = cut-made bam before before-reverse start room r e in
+      (lo, at, record {
+        tagged = holds .tagged;
+        listed =
+          then-listed made t holds
+          ∙ cut-keeps-the-held (hasML bam) old-bases (textOf (mmOf bam)) (valuesOf (mlOf bam)) ls (old .listed) (valuesOf (mlOf (r .bytes))) lo (readSeq bam) t lies edits;
+      })
