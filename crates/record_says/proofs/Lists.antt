@@ -198,7 +198,8 @@ module _ (reverse : Bool) (n : ℕ) (packed before : List ℕ) (before-reverse :
         (λ d.
         let is : cutFields reverse n packed before before-reverse start fs ≡ orRemoval begins fs cuts = rw (t, some-bases s, d, s) in
         let (lo, q, there) = found begins (λ x. h (is ∙ x)) in
-        (lo, q, is ∙ there))
+        let made : cutFields reverse n packed before before-reverse start fs ≡ cuts lo = _∙_ {c = cuts lo} is there in
+        (lo, q, made))
 
 module _ (bam before : List ℕ) (before-reverse : Bool) (start : Option ℕ) (room : ℕ) (r : Finished) (ls : List Listing)
     (e : cutRecord bam before before-reverse start room ≡ done r) (keeps : keepsMM bam (r .bytes) ≡ true)
@@ -236,3 +237,23 @@ module _ (bam before : List ℕ) (before-reverse : Bool) (start : Option ℕ) (r
           then-listed made t holds
           ∙ cut-keeps-the-held (hasML bam) old-bases (textOf (mmOf bam)) (valuesOf (mlOf bam)) ls (old .listed) (valuesOf (mlOf (r .bytes))) lo (readSeq bam) t lies edits;
       })
+
+  -- If SEQ is the k bases from place a of SEQ before, unmasked and fewer than before, and the start is known to be there, the tag lists every call inside.
+  pub clean-cut-lists : (a k : ℕ) → startOf (isReverse bam) before-reverse (length before) (seqLength bam) start ≡ some a
+      → readSeq bam ≡ window a k (turnedLetters before-reverse before) → a + k ≤ length (turnedLetters before-reverse before)
+      → length (readSeq bam) < length (turnedLetters before-reverse before) → ListsOver (readSeq (r .bytes)) (r .bytes) (map (callsInWindow a k) ls)
+  clean-cut-lists a k s w fits less =
+      let (lo, t, at, lies, edits, holds) = cut-held in
+      let made = cut-made bam before before-reverse start room r e in
+      let given : starts ≡ some a = rw (ne-eqb (length old-bases) (length (readSeq bam)) (λ q. omega (arith, q, less)), s) in
+      let known : some a ≡ some lo = sym given ∙ at in
+      let same : a ≡ lo = cc in
+      let cut : edited (cutTo a (window a k old-bases)) (hasML bam) old-bases (textOf (mmOf bam)) (valuesOf (mlOf bam)) ≡ done t =
+      (λ j. edited (cutTo (same j) (sym w j)) (hasML bam) old-bases (textOf (mmOf bam)) (valuesOf (mlOf bam))) ∙ edits in
+      record {
+        tagged = holds .tagged;
+        listed =
+          then-listed made t holds
+          ∙ ap (λ (l : List ℕ). lists (hasML bam) l (t .text) (cond (hasML bam) (t .ml) (valuesOf (mlOf (r .bytes))))) w
+          ∙ cut-keeps-the-others (hasML bam) old-bases (textOf (mmOf bam)) (valuesOf (mlOf bam)) ls (old .listed) (valuesOf (mlOf (r .bytes))) a k t fits cut;
+      }

@@ -9,13 +9,13 @@ use mathlib.Core.List.{List, [], _∷_}
 use mathlib.Core.Logic.{_⊎_, inl, inr}
 use lib.Dec.{leb, ltb, eqb}
 use lib.ListN.{length}
-use borrow.Author.Tests.{eq-eqb, eqb-false, eqb-true, leb-true, lt-ltb, ltb-true, ne-eqb, not-true}
+use borrow.Author.Tests.{eq-eqb, eqb-false, eqb-true, leb-true, lt-ltb, ltb-false, ltb-true, ne-eqb, not-true}
 use Rattle.lent.proofs.Tests.{and-true, and-true-l, and-true-r, by-test, test-ext}
 use Rattle.lent.specs.Lists.{among, any, every, isEmpty}
-use Rattle.record_fields.specs.Fields.{Field, firstNamed, isField}
+use Rattle.record_fields.specs.Fields.{Field, MM, firstNamed, isField}
 use Rattle.record_says.proofs.Made.{Made, cut-made, drop-made, fields-are, mask-made, old-fields}
-use Rattle.record_says.proofs.Pieces.{Each, each-fields, each-gone, each-went, there-times}
-use Rattle.record_says.specs.Says.{Remade, cut, dropped, fieldsIn, fiveNames, isGone, masked, noneTwice, times}
+use Rattle.record_says.proofs.Pieces.{Each, each-fewer, each-fields, each-gone, each-went, there-times}
+use Rattle.record_says.specs.Says.{Remade, cut, dropped, fieldsIn, fiveNames, isGone, keepsMM, masked, noneTwice, times}
 use Rattle.samtags.proofs.Text.{among-every}
 use Rattle.record_tags.specs.Records.{Finished}
 
@@ -95,3 +95,17 @@ pub went-is-gone : {bam : List ℕ} {r : Finished} → Remade bam r → noneTwic
 went-is-gone {bam} {r} (masked before room e) = went-gone (mask-made bam before room r e)
 went-is-gone {bam} {r} (dropped places room e) = went-gone (drop-made bam places room r e)
 went-is-gone {bam} {r} (cut before before-reverse start room e) = went-gone (cut-made bam before before-reverse start room r e)
+
+-- ---- MM
+
+kept-mm : {n : ℕ} {bam : List ℕ} {new : List Field} {r : Finished} → Made n bam new r → r .went ≡ false → keepsMM bam (r .bytes) ≡ true
+kept-mm {n} {bam} {new} {r} m w =
+    let same : times MM (fieldsIn (r .bytes)) ≡ times MM new = ap (times MM) (fields-are m) in
+    let more = ltb-false (length new) (length (fieldsIn bam)) (sym (ap (λ (x : Finished). x .went) (m .is)) ∙ w) in
+    eq-eqb (times MM (fieldsIn (r .bytes))) (times MM (fieldsIn bam)) (omega (arith, same, more, each-gone (m .each) MM, each-fewer (m .each) .1 MM))
+
+-- Where no tag went, there are as many MM as there were.
+pub keeps-mm : {bam : List ℕ} {r : Finished} → Remade bam r → r .went ≡ false → keepsMM bam (r .bytes) ≡ true
+keeps-mm {bam} {r} (masked before room e) = kept-mm (mask-made bam before room r e)
+keeps-mm {bam} {r} (dropped places room e) = kept-mm (drop-made bam places room r e)
+keeps-mm {bam} {r} (cut before before-reverse start room e) = kept-mm (cut-made bam before before-reverse start room r e)
