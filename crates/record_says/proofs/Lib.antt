@@ -10,3 +10,4 @@ pub mod Roomy
 pub mod Firsts
 pub mod Held
 pub mod Lists
+pub mod Examples

@@ -1,0 +1,161 @@
+-- Small records by their bytes, through the three calls.
+-- Assumes nothing.
+use mathlib.Core.Path.{_≡_, refl}
+use Prim.Native.Nat.{ℕ, _+_}
+use mathlib.Core.Bool.{true, false}
+use mathlib.Core.List.{List, [], _∷_, _++_}
+use mathlib.Core.Option.{none, some}
+use lib.ListN.{length, replicate}
+use Rattle.lent.specs.Outcome.{Outcome, done, numberOf, onDone, refuse}
+use Rattle.packed.specs.Packed.{pack}
+use Rattle.record_fields.specs.Fields.{Field, joined}
+use Rattle.record_tags.specs.Records.{Finished, cutRecord, dropRecord, finishedWith, maskRecord}
+use Rattle.samtags.specs.Bytes.{ascii}
+
+-- a record with the name `r`, no CIGAR, a flag of one byte, SEQ and its fields
+abbrev bamOf : ℕ → List ℕ → List Field → List ℕ
+bamOf flag seq fs =
+    replicate 8 0 ++ 2 ∷ replicate 5 0 ++ flag ∷ 0 ∷ length seq ∷ replicate 15 0 ++ ascii "r" ++ 0 ∷ pack seq ++ replicate (length seq) 30 ++ joined fs
+
+-- a text, an array of bytes and a number of one byte
+abbrev text : List ℕ → List ℕ → Field
+text name t = name ++ ascii "Z" ++ t ++ 0 ∷ []
+
+abbrev bytes : List ℕ → List ℕ → Field
+bytes name vs = name ++ ascii "BC" ++ length vs ∷ 0 ∷ 0 ∷ 0 ∷ vs
+
+abbrev byte : List ℕ → ℕ → Field
+byte name n = name ++ ascii "C" ++ n ∷ []
+
+-- ---- refusals
+
+-- l_seq of FFFFFFFF in a record of 40 bytes: 14
+huge-seq : maskRecord (replicate 16 0 ++ 255 ∷ 255 ∷ 255 ∷ 255 ∷ replicate 20 0) [] 100 ≡ refuse 14
+unfolding maskRecord
+huge-seq = refl
+
+-- 31 bytes
+too-short : maskRecord (replicate 31 0) [] 100 ≡ refuse 14
+unfolding maskRecord
+too-short = refl
+
+-- an array with a count of FFFFFFFF: 15
+huge-array : dropRecord (bamOf 0 (ascii "ACC") ((ascii "XXBI" ++ 255 ∷ 255 ∷ 255 ∷ 255 ∷ []) ∷ [])) (1 ∷ []) 100 ≡ refuse 15
+unfolding dropRecord pack
+huge-array = refl
+
+-- an array of A: 15
+array-of-A : dropRecord (bamOf 0 (ascii "ACC") ((ascii "XXBA" ++ 1 ∷ 0 ∷ 0 ∷ 0 ∷ 33 ∷ []) ∷ [])) (1 ∷ []) 100 ≡ refuse 15
+unfolding dropRecord pack
+array-of-A = refl
+
+-- ---- a drop
+
+abbrev dropsFrom : List Field → List ℕ
+dropsFrom fs = bamOf 0 (ascii "ACCA") fs
+
+-- the call at place 2 goes; what is before, between and behind the edited fields stays
+one-dropped :
+    dropRecord
+    (dropsFrom (byte (ascii "NM") 1 ∷ text (ascii "MM") (ascii "C+m?,0,0;") ∷ text (ascii "XX") (ascii "x") ∷ bytes (ascii "ML") (7 ∷ 8 ∷ []) ∷ byte (ascii "MN") 4 ∷ []))
+    (2 ∷ []) 200
+    ≡ done (finishedWith false
+    (dropsFrom (byte (ascii "NM") 1 ∷ text (ascii "MM") (ascii "C+m?,0;") ∷ text (ascii "XX") (ascii "x") ∷ bytes (ascii "ML") (7 ∷ []) ∷ byte (ascii "MN") 4 ∷ [])))
+unfolding dropRecord pack
+one-dropped = refl
+
+-- a drop at a place where a header without '?' lists a call: MM, ML and MN go, and am, which is edited without ML, stays
+unmarked-goes :
+    dropRecord
+    (dropsFrom (byte (ascii "NM") 1 ∷ text (ascii "MM") (ascii "C+m,0,0;") ∷ bytes (ascii "ML") (7 ∷ 8 ∷ []) ∷ byte (ascii "MN") 4 ∷ text (ascii "am") (ascii "C+m?,0,0;") ∷ []))
+    (2 ∷ []) 200
+    ≡ done (finishedWith true (dropsFrom (byte (ascii "NM") 1 ∷ text (ascii "am") (ascii "C+m?,0;") ∷ [])))
+unfolding dropRecord pack
+unmarked-goes = refl
+
+-- an MN of -1 disagrees with SEQ: all five go
+negative-length :
+    dropRecord (dropsFrom (text (ascii "MM") (ascii "C+m?,0;") ∷ (ascii "MNc" ++ 255 ∷ []) ∷ text (ascii "bm") (ascii "C+m?,0;") ∷ byte (ascii "NM") 1 ∷ [])) (9 ∷ []) 200
+    ≡ done (finishedWith true (dropsFrom (byte (ascii "NM") 1 ∷ [])))
+unfolding dropRecord pack
+negative-length = refl
+
+-- no bases, and an MM that lists nothing
+no-bases : dropRecord (bamOf 0 [] (text (ascii "MM") (ascii "C+m;") ∷ [])) (0 ∷ []) 200 ≡ done (finishedWith false (bamOf 0 [] (text (ascii "MM") (ascii "C+m;") ∷ [])))
+unfolding dropRecord pack
+no-bases = refl
+
+-- of two MM the first is edited, and the second stays as it came
+first-of-two :
+    dropRecord (dropsFrom (text (ascii "MM") (ascii "C+m?,0,0;") ∷ text (ascii "MM") (ascii "C+m?,1;") ∷ [])) (2 ∷ []) 200
+    ≡ done (finishedWith false (dropsFrom (text (ascii "MM") (ascii "C+m?,0;") ∷ text (ascii "MM") (ascii "C+m?,1;") ∷ [])))
+unfolding dropRecord pack
+first-of-two = refl
+
+-- no MM, am or bm: the record as it came, with its ML and a stale MN
+no-tag :
+    dropRecord (dropsFrom (bytes (ascii "ML") (7 ∷ []) ∷ byte (ascii "MN") 9 ∷ [])) (2 ∷ []) 200
+    ≡ done (finishedWith false (dropsFrom (bytes (ascii "ML") (7 ∷ []) ∷ byte (ascii "MN") 9 ∷ [])))
+unfolding dropRecord pack
+no-tag = refl
+
+-- ---- a mask
+
+-- place 2 became N
+one-masked :
+    maskRecord (bamOf 0 (ascii "ACNA") (text (ascii "MM") (ascii "C+m,0,0;") ∷ bytes (ascii "ML") (7 ∷ 8 ∷ []) ∷ [])) (ascii "ACCA") 200
+    ≡ done (finishedWith false (bamOf 0 (ascii "ACNA") (text (ascii "MM") (ascii "C+m,0;") ∷ bytes (ascii "ML") (7 ∷ []) ∷ [])))
+unfolding maskRecord pack
+one-masked = refl
+
+-- SEQ before has another length: what can't be edited goes
+other-length :
+    maskRecord (bamOf 0 (ascii "ACNA") (text (ascii "MM") (ascii "C+m,0;") ∷ bytes (ascii "ML") (7 ∷ []) ∷ byte (ascii "NM") 1 ∷ [])) (ascii "ACC") 200
+    ≡ done (finishedWith true (bamOf 0 (ascii "ACNA") (byte (ascii "NM") 1 ∷ [])))
+unfolding maskRecord pack
+other-length = refl
+
+-- ---- a cut
+
+-- the last base was cut off; MN of one byte stands before a tag that keeps all its calls
+abbrev cutRead : Field → List ℕ
+cutRead mn = bamOf 0 (ascii "ACC") (mn ∷ text (ascii "MM") (ascii "C+m,0,0;") ∷ bytes (ascii "ML") (7 ∷ 8 ∷ []) ∷ [])
+
+-- MN becomes 3, in four bytes: the record is three bytes longer
+grows :
+    cutRecord (cutRead (byte (ascii "MN") 4)) (ascii "ACCA") false (some 0) (length (cutRead (byte (ascii "MN") 4)) + 3)
+    ≡ done (finishedWith false (cutRead (ascii "MNi" ++ 3 ∷ 0 ∷ 0 ∷ 0 ∷ [])))
+unfolding cutRecord pack
+grows = refl
+
+-- with as much room as the record takes: 12
+grows-too-far : cutRecord (cutRead (byte (ascii "MN") 4)) (ascii "ACCA") false (some 0) (length (cutRead (byte (ascii "MN") 4))) ≡ refuse 12
+unfolding cutRecord pack
+grows-too-far = refl
+
+-- MN says the length of SEQ now, but a cut compares it with SEQ before: all go
+length-of-now :
+    cutRecord (cutRead (byte (ascii "MN") 3)) (ascii "ACCA") false (some 0) 200 ≡ done (finishedWith true (bamOf 0 (ascii "ACC") []))
+unfolding cutRecord pack
+length-of-now = refl
+
+-- the record was stored reverse and is so no more, with as many bases: it is edited in read orientation
+turned :
+    cutRecord (bamOf 0 (ascii "ACN") (text (ascii "MM") (ascii "C+m,0,0;") ∷ bytes (ascii "ML") (7 ∷ 8 ∷ []) ∷ [])) (ascii "GGT") true none 200
+    ≡ done (finishedWith false (bamOf 0 (ascii "ACN") (text (ascii "MM") (ascii "C+m,0;") ∷ bytes (ascii "ML") (7 ∷ []) ∷ [])))
+unfolding cutRecord pack
+turned = refl
+
+-- the same with fewer bases: the start is not known, and all go
+turned-and-shorter :
+    cutRecord (bamOf 0 (ascii "AC") (text (ascii "MM") (ascii "C+m,0,0;") ∷ bytes (ascii "ML") (7 ∷ 8 ∷ []) ∷ [])) (ascii "GGT") true (some 1) 200
+    ≡ done (finishedWith true (bamOf 0 (ascii "AC") []))
+unfolding cutRecord pack
+turned-and-shorter = refl
+
+-- a reverse read that lost its first stored base, which is its last base in read orientation
+reverse-cut :
+    cutRecord (bamOf 16 (ascii "GT") (text (ascii "MM") (ascii "C+m,0,0;") ∷ bytes (ascii "ML") (7 ∷ 8 ∷ []) ∷ [])) (ascii "GGT") true (some 1) 200
+    ≡ done (finishedWith false (bamOf 16 (ascii "GT") (text (ascii "MM") (ascii "C+m,0;") ∷ bytes (ascii "ML") (7 ∷ []) ∷ [])))
+unfolding cutRecord pack
+reverse-cut = refl
