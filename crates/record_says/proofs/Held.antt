@@ -9,7 +9,7 @@ use mathlib.Core.Option.{Option}
 use lib.Dec.{leb, eqb}
 use lib.ListN.{List·getD-append, length, getD, take, drop, length-append}
 use lib.Seq.{drop-at, getD-take, length-take-le, take-append-seam}
-use borrow.Author.Tests.{eq-eqb, eqb-true, not-true}
+use borrow.Author.Tests.{eq-eqb, eqb-true, lt-ltb, not-true}
 use Rattle.lent.proofs.Outcome.{need-rest, need-test}
 use Rattle.lent.proofs.Tests.{and-true, and-true-l, and-true-r, by-test}
 use Rattle.lent.specs.Lists.{every, isEmpty}
@@ -17,14 +17,14 @@ use Rattle.lent.specs.Outcome.{Outcome, done, need, refused}
 use Rattle.lent.specs.declared.Refusal.{Refusal}
 use Rattle.record_fields.proofs.Kept.{name-kept}
 use Rattle.record_fields.specs.Bam.{wordBytes}
-use Rattle.record_fields.specs.Fields.{Field, ML, MM, MN, firstNamed, isField, nameOf}
+use Rattle.record_fields.specs.Fields.{Field, ML, MM, am, bm, firstNamed, isField, nameOf}
 use Rattle.record_says.proofs.Edits.{Tidy, editing-sound, first-is, removal-sound}
 use Rattle.record_says.proofs.Firsts.{first-gone, first-kept}
 use Rattle.record_says.proofs.Made.{Made, fields-are, old-fields}
 use Rattle.record_says.proofs.Pieces.{Lengths, Sound, each-fewer, each-fields, field-long, there-times}
-use Rattle.record_says.specs.Says.{fieldsIn, hasML, hasTag, keepsMM, mlOf, mmOf, times}
+use Rattle.record_says.specs.Says.{fieldsIn, hasML, hasTag, isAlone, keeps, mlOf, mmOf, times}
 use Rattle.record_tags.proofs.GrowthLaws.{length-with-text}
-use Rattle.record_tags.specs.Changes.{Changes, TagEdit, applied, changed, editing, isTagged, lengthSets, removal, withML}
+use Rattle.record_tags.specs.Changes.{Changes, TagEdit, aloneEdited, applied, changed, editing, isTagged, lengthSets, removal, withML}
 use Rattle.record_tags.specs.Changes as changes
 use Rattle.record_tags.specs.Records.{Finished, arrayFits}
 use Rattle.record_tags.specs.Values.{isByteArray, isText, textOf, typeOf, valuesOf, withText, withValues}
@@ -59,8 +59,6 @@ module _ (f : Field) (long : 4 ≤ length f) where
       let eight : length front ≡ 8 = length-append (take 4 f) (wordBytes (length vs)) ∙ ap (λ (k : ℕ). k + 4) (length-take-le 4 f long) in
       ap (drop 8) (sym (append-assoc (take 4 f) (wordBytes (length vs)) vs)) ∙ drop-at front vs 8 eight
 
--- ---- an edit of MM
-
 -- the new record holds this tag where the old one held its tag
 pub record Holds (old new : List ℕ) (t : Tag) : Type 0 where
   pub tagged : hasTag new ≡ true
@@ -80,25 +78,86 @@ empty-is : (f : Field) → isEmpty f ≡ true → f ≡ []
 empty-is [] e = refl
 empty-is (x ∷ xs) e = let z : _≡_ {A = ℕ} 0 1 = cc in absurd (omega arith)
 
+-- ---- a name that did not go
+
+module _ {n : ℕ} {bam : List ℕ} {new : List Field} {r : Finished} (made : Made n bam new r) (k : ℕ) (text : isText (firstNamed k (fieldsIn bam)) ≡ true)
+    (kept : keeps k bam (r .bytes) ≡ true) where
+  named-there : isEmpty (firstNamed k (fieldsIn bam)) ≡ false
+  named-there = text-there (firstNamed k (fieldsIn bam)) text
+
+  named-stays : (m : ℕ) (c : Changes) → Sound m c (fieldsIn bam) → new ≡ changed c (fieldsIn bam) → applied (c k) (firstNamed k (fieldsIn bam)) ≡ [] → ⊥
+  named-stays m c s is a =
+      let less = first-gone k m c (fieldsIn bam) (old-fields made) s named-there a in
+      let many = eqb-true (times k (fieldsIn (r .bytes))) (times k (fieldsIn bam)) kept in
+      omega (arith, less, many, ap (times k) (sym is), ap (times k) (fields-are made))
+
+  -- the tags were not removed
+  pub not-removed : k < 5 → new ≡ changed removal (fieldsIn bam) → ⊥
+  unfolding removal
+  not-removed h is = named-stays 0 removal (removal-sound 0 (fieldsIn bam) (old-fields made)) is (rw (lt-ltb k 5 h))
+
+  -- ---- an edit of am or bm
+
+  module _ (edit : TagEdit) (tidy : Tidy edit) (m : ℕ) (len : Option ℕ) (lengths : (b : Bool) → Lengths m (cond b (changes.goes ∷ []) [] ++ lengthSets len))
+      (is : new ≡ changed (editing edit len (fieldsIn bam)) (fieldsIn bam)) (alone : isAlone k ≡ true) where
+    abbrev old : Field
+    old = firstNamed k (fieldsIn bam)
+
+    abbrev now : Field
+    now = firstNamed k (fieldsIn (r .bytes))
+
+    alone-change : editing edit len (fieldsIn bam) k ≡ aloneEdited edit ∷ []
+    unfolding editing
+    alone-change =
+        by-test (eqb k am)
+        (λ e. rw (eqb-true k am e))
+        (λ e. let b : eqb k bm ≡ true = rw e at alone in rw (eqb-true k bm b))
+
+    alone-by : (o : Outcome Tag) → edit false (textOf old) [] ≡ o
+        → (t : Tag) × (edit false (textOf old) [] ≡ done t) × (isText now ≡ true) × (textOf now ≡ t .text)
+    alone-by (refused q) e =
+        absurd (named-stays m (editing edit len (fieldsIn bam)) (editing-sound edit tidy (fieldsIn bam) (old-fields made) (made .fits) m len lengths) is
+        (rw (alone-change, text, e)))
+    alone-by (done t) e =
+        let first = first-is k (fieldsIn bam) (old-fields made) named-there in
+        let long = field-long old (first .0) in
+        let new-is : now ≡ withText (t .text) old =
+        ap (firstNamed k) (fields-are made ∙ is)
+        ∙ first-kept k m (editing edit len (fieldsIn bam)) (fieldsIn bam) (withText (t .text) old) (old-fields made)
+        (editing-sound edit tidy (fieldsIn bam) (old-fields made) (made .fits) m len lengths) named-there (rw (alone-change, text, e))
+        (name-kept old (t .text ++ 0 ∷ []) 3 (omega arith) (omega (arith, long)) ∙ first .1) in
+        (t, e, ap isText new-is ∙ text-type old long (t .text) text, ap textOf new-is ∙ text-held old long (t .text))
+
+    -- the field was edited, and holds the edited text
+    pub alone-held : (t : Tag) × (edit false (textOf old) [] ≡ done t) × (isText now ≡ true) × (textOf now ≡ t .text)
+    alone-held = alone-by (edit false (textOf old) []) refl
+
+-- a record with a text of one of these names is tagged
+pub alone-tagged : (fs : List Field) (k : ℕ) → isAlone k ≡ true → isText (firstNamed k fs) ≡ true → isTagged fs ≡ true
+unfolding isTagged
+alone-tagged fs k a t =
+    let there = text-there (firstNamed k fs) t in
+    by-test (eqb k am)
+    (λ e.
+    let here : isEmpty (firstNamed am fs) ≡ false = ap (λ (j : ℕ). isEmpty (firstNamed j fs)) (sym (eqb-true k am e)) ∙ there in
+    rw (here, or-true (not (isEmpty (firstNamed MM fs)))))
+    (λ e.
+    let b : eqb k bm ≡ true = rw e at a in
+    let here : isEmpty (firstNamed bm fs) ≡ false = ap (λ (j : ℕ). isEmpty (firstNamed j fs)) (sym (eqb-true k bm b)) ∙ there in
+    rw (here) (or-true (not (isEmpty (firstNamed MM fs)) || not (isEmpty (firstNamed am fs)))))
+
+-- ---- an edit of MM, with its ML
+
 module _ {n : ℕ} {bam : List ℕ} {new : List Field} {r : Finished} (made : Made n bam new r) (tag : hasTag bam ≡ true)
-    (keeps : keepsMM bam (r .bytes) ≡ true) where
+    (kept : keeps MM bam (r .bytes) ≡ true) where
   abbrev fs : List Field
   fs = fieldsIn bam
 
-  mm-text : isText (mmOf bam) ≡ true
+  pub mm-text : isText (mmOf bam) ≡ true
   mm-text = and-true-l (isText (mmOf bam)) (isEmpty (mlOf bam) || isByteArray (mlOf bam)) tag
 
   mm-there : isEmpty (mmOf bam) ≡ false
   mm-there = text-there (mmOf bam) mm-text
-
-  as-many : times MM new ≡ times MM fs
-  as-many = ap (times MM) (sym (fields-are made)) ∙ eqb-true (times MM (fieldsIn (r .bytes))) (times MM fs) keeps
-
-  -- MM did not go
-  pub mm-stays : (m : ℕ) (c : Changes) → Sound m c fs → new ≡ changed c fs → applied (c MM) (mmOf bam) ≡ [] → ⊥
-  mm-stays m c s is a =
-      let less = first-gone MM m c fs (old-fields made) s mm-there a in
-      omega (arith, less, as-many, ap (times MM) is)
 
   module _ (edit : TagEdit) (tidy : Tidy edit) (m : ℕ) (len : Option ℕ) (lengths : (b : Bool) → Lengths m (cond b (changes.goes ∷ []) [] ++ lengthSets len))
       (is : new ≡ changed (editing edit len fs) fs) where
@@ -178,13 +237,8 @@ module _ {n : ℕ} {bam : List ℕ} {new : List Field} {r : Finished} (made : Ma
       where
         by : (o : Outcome Tag) → withML edit (mmOf bam) (mlOf bam) ≡ o
             → (t : Tag) × (edit (hasML bam) (textOf (mmOf bam)) (valuesOf (mlOf bam)) ≡ done t) × Holds bam (r .bytes) t
-        by (refused q) e = absurd (mm-stays m (editing edit len fs) sound is (mm-gone q e))
+        by (refused q) e = absurd (named-stays made MM mm-text kept m (editing edit len fs) sound is (mm-gone q e))
         by (done t) e = (t, edit-is t e, holds t e)
-
-  -- the tags were not removed
-  pub not-removed : new ≡ changed removal fs → ⊥
-  unfolding removal
-  not-removed is = mm-stays 0 removal (removal-sound 0 fs (old-fields made)) is refl
 
   -- there is a tag
   pub is-tagged : isTagged fs ≡ true

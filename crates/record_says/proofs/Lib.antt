@@ -3,11 +3,11 @@ pub mod Texts
 pub mod Edits
 pub mod Made
 pub mod Parses
-pub mod Stays
-pub mod AsCame
+pub mod Untouched
+pub mod AsItCame
 pub mod Went
-pub mod Roomy
+pub mod Room
 pub mod Firsts
 pub mod Held
-pub mod Lists
+pub mod Edited
 pub mod Examples

@@ -15,7 +15,7 @@ use Rattle.lent.specs.Lists.{among, any, every, isEmpty}
 use Rattle.record_fields.specs.Fields.{Field, MM, firstNamed, isField}
 use Rattle.record_says.proofs.Made.{Made, cut-made, drop-made, fields-are, mask-made, old-fields}
 use Rattle.record_says.proofs.Pieces.{Each, each-fewer, each-fields, each-gone, each-went, there-times}
-use Rattle.record_says.specs.Says.{Remade, cut, dropped, fieldsIn, fiveNames, isGone, keepsMM, masked, noneTwice, times}
+use Rattle.record_says.specs.Says.{Remade, cut, dropped, fieldsIn, fiveNames, isGone, keeps, masked, noneTwice, times}
 use Rattle.samtags.proofs.Text.{among-every}
 use Rattle.record_tags.specs.Records.{Finished}
 
@@ -98,14 +98,14 @@ went-is-gone {bam} {r} (cut before before-reverse start room e) = went-gone (cut
 
 -- ---- MM
 
-kept-mm : {n : ℕ} {bam : List ℕ} {new : List Field} {r : Finished} → Made n bam new r → r .went ≡ false → keepsMM bam (r .bytes) ≡ true
+kept-mm : {n : ℕ} {bam : List ℕ} {new : List Field} {r : Finished} → Made n bam new r → r .went ≡ false → keeps MM bam (r .bytes) ≡ true
 kept-mm {n} {bam} {new} {r} m w =
     let same : times MM (fieldsIn (r .bytes)) ≡ times MM new = ap (times MM) (fields-are m) in
     let more = ltb-false (length new) (length (fieldsIn bam)) (sym (ap (λ (x : Finished). x .went) (m .is)) ∙ w) in
     eq-eqb (times MM (fieldsIn (r .bytes))) (times MM (fieldsIn bam)) (omega (arith, same, more, each-gone (m .each) MM, each-fewer (m .each) .1 MM))
 
 -- Where no tag went, there are as many MM as there were.
-pub keeps-mm : {bam : List ℕ} {r : Finished} → Remade bam r → r .went ≡ false → keepsMM bam (r .bytes) ≡ true
+pub keeps-mm : {bam : List ℕ} {r : Finished} → Remade bam r → r .went ≡ false → keeps MM bam (r .bytes) ≡ true
 keeps-mm {bam} {r} (masked before room e) = kept-mm (mask-made bam before room r e)
 keeps-mm {bam} {r} (dropped places room e) = kept-mm (drop-made bam places room r e)
 keeps-mm {bam} {r} (cut before before-reverse start room e) = kept-mm (cut-made bam before before-reverse start room r e)

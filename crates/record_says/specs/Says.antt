@@ -12,7 +12,7 @@ use Rattle.lent.specs.Outcome.{Outcome, andThen, done}
 use Rattle.packed.specs.Packed.{unpack}
 use Rattle.packed.specs.Stored.{inRead}
 use Rattle.record_fields.specs.Bam.{headSize, isReverse, isWhole, packedSeq, seqLength}
-use Rattle.record_fields.specs.Fields.{Field, ML, MM, anyOther, fields, fieldsOf, firstNamed, nameOf}
+use Rattle.record_fields.specs.Fields.{Field, ML, MM, am, anyOther, bm, fields, fieldsOf, firstNamed, nameOf}
 use Rattle.record_tags.specs.Records.{Finished, cutFields, cutRecord, dropFields, dropRecord, inRoom, maskFields, maskRecord}
 use Rattle.record_tags.specs.Values.{isByteArray, isText, textOf, valuesOf}
 use Rattle.samtags.specs.Reading.{lists}
@@ -106,9 +106,18 @@ pub record ListsOver (seq bam : List ℕ) (ls : List Listing) : Type 0 where
   pub tagged : hasTag bam ≡ true
   pub listed : tagLists seq bam ≡ done ls
 
--- there are as many MM as there were: MM was edited, or stayed
-abbrev pub keepsMM : List ℕ → List ℕ → Bool
-keepsMM old new = eqb (times MM (fieldsIn new)) (times MM (fieldsIn old))
+-- am or bm is a text, which the reader accepts without ML over a SEQ in read orientation, and which lists this.
+pub record AloneListsOver (seq : List ℕ) (k : ℕ) (bam : List ℕ) (ls : List Listing) : Type 0 where
+  pub is-text : isText (firstNamed k (fieldsIn bam)) ≡ true
+  pub listed : lists false seq (textOf (firstNamed k (fieldsIn bam))) [] ≡ done ls
+
+-- the names of the tags that are edited without ML
+abbrev pub isAlone : ℕ → Bool
+isAlone k = eqb k am || eqb k bm
+
+-- there are as many fields of the name as there were: the first was edited, or stayed
+abbrev pub keeps : ℕ → List ℕ → List ℕ → Bool
+keeps k old new = eqb (times k (fieldsIn new)) (times k (fieldsIn old))
 
 -- every byte as it came, and no field went
 pub record AsItCame (bam : List ℕ) (r : Finished) : Type 0 where

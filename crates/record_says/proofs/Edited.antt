@@ -20,11 +20,11 @@ use Rattle.packed.specs.Stored.{inRead, placesInRead}
 use Rattle.record_fields.specs.Bam.{isReverse, packedSeq, seqLength}
 use Rattle.record_fields.specs.Fields.{Field, MM, MN, firstNamed}
 use Rattle.record_rows.specs.Letters.{turnedLetters}
-use Rattle.record_says.proofs.AsCame.{dropped-nowhere}
+use Rattle.record_says.proofs.AsItCame.{dropped-nowhere}
 use Rattle.record_says.proofs.Edits.{cut-tidy, drop-tidy, lengths-none, lengths-some, mask-tidy}
-use Rattle.record_says.proofs.Held.{Holds, held, is-tagged, not-removed}
+use Rattle.record_says.proofs.Held.{Holds, held, is-tagged, mm-text, not-removed}
 use Rattle.record_says.proofs.Made.{Made, cut-made, drop-made, front-same, mask-made, packed-same, reverse-same, seq-length-same}
-use Rattle.record_says.specs.Says.{ListsOver, cutFieldsOf, droppedFields, fieldsIn, hasML, hasTag, keepsMM, maskedFields, mlOf, mmOf, readSeq, storedSeq, tagLists}
+use Rattle.record_says.specs.Says.{ListsOver, cutFieldsOf, droppedFields, fieldsIn, hasML, hasTag, keeps, maskedFields, mlOf, mmOf, readSeq, storedSeq, tagLists}
 use Rattle.record_tags.specs.Changes.{changed, editing, isTagged, removal}
 use Rattle.record_tags.specs.Records.{Finished, cutEdit, cutFields, cutRecord, dropEdit, dropFields, dropRecord, maskEdit, maskFields, maskRecord, orRemoval, startOf, windowIn}
 use Rattle.record_tags.specs.Values.{disagrees, textOf, valuesOf}
@@ -75,7 +75,7 @@ no-place-turned true n = refl
 no-place-turned false n = refl
 
 module _ (bam places : List ℕ) (room : ℕ) (r : Finished) (ls : List Listing) (e : dropRecord bam places room ≡ done r)
-    (keeps : keepsMM bam (r .bytes) ≡ true) (old : ListsOver (readSeq bam) bam ls) where
+    (kept : keeps MM bam (r .bytes) ≡ true) (old : ListsOver (readSeq bam) bam ls) where
   abbrev ps : List ℕ
   ps = placesInRead (isReverse bam) (seqLength bam) places
 
@@ -84,8 +84,8 @@ module _ (bam places : List ℕ) (room : ℕ) (r : Finished) (ls : List Listing)
   some-dropped p =
       let tag = old .tagged in
       let made = drop-made bam places room r e in
-      let is = drop-is (isReverse bam) (seqLength bam) (packedSeq bam) places (fieldsIn bam) p (is-tagged made tag keeps) (not-removed made tag keeps) in
-      let (t, edits, holds) = held made tag keeps (dropEdit (readSeq bam) ps) (drop-tidy (readSeq bam) ps) 0 none (lengths-none 0) is in
+      let is = drop-is (isReverse bam) (seqLength bam) (packedSeq bam) places (fieldsIn bam) p (is-tagged made tag kept) (not-removed made MM (mm-text made tag kept) kept (omega arith)) in
+      let (t, edits, holds) = held made tag kept (dropEdit (readSeq bam) ps) (drop-tidy (readSeq bam) ps) 0 none (lengths-none 0) is in
       record {
         tagged = holds .tagged;
         listed =
@@ -115,7 +115,7 @@ mask-is reverse n packed before fs s t h =
     by-test (disagrees n (firstNamed MN fs)) (λ d. absurd (h (rw (t, d)))) (λ d. rw (t, d, s))
 
 module _ (bam before : List ℕ) (room : ℕ) (r : Finished) (ls : List Listing) (e : maskRecord bam before room ≡ done r)
-    (keeps : keepsMM bam (r .bytes) ≡ true) (old : ListsOver (turnedLetters (isReverse bam) before) bam ls)
+    (kept : keeps MM bam (r .bytes) ≡ true) (old : ListsOver (turnedLetters (isReverse bam) before) bam ls)
     (differs : sameBytes before (storedSeq bam) ≡ false) (by-n : differsByN (turnedLetters (isReverse bam) before) (readSeq bam) ≡ true) where
   abbrev old-seq : List ℕ
   old-seq = turnedLetters (isReverse bam) before
@@ -126,8 +126,8 @@ module _ (bam before : List ℕ) (room : ℕ) (r : Finished) (ls : List Listing)
   mask-lists =
       let tag = old .tagged in
       let made = mask-made bam before room r e in
-      let is = mask-is (isReverse bam) (seqLength bam) (packedSeq bam) before (fieldsIn bam) differs (is-tagged made tag keeps) (not-removed made tag keeps) in
-      let (t, edits, holds) = held made tag keeps (maskEdit old-seq (readSeq bam)) (mask-tidy old-seq (readSeq bam)) 0 none (lengths-none 0) is in
+      let is = mask-is (isReverse bam) (seqLength bam) (packedSeq bam) before (fieldsIn bam) differs (is-tagged made tag kept) (not-removed made MM (mm-text made tag kept) kept (omega arith)) in
+      let (t, edits, holds) = held made tag kept (maskEdit old-seq (readSeq bam)) (mask-tidy old-seq (readSeq bam)) 0 none (lengths-none 0) is in
       let masks : edited (maskedTo (readSeq bam)) (hasML bam) old-seq (textOf (mmOf bam)) (valuesOf (mlOf bam)) ≡ done t =
       need-rest (eqb (length old-seq) (length (readSeq bam))) 2 _ t edits in
       record {
@@ -202,7 +202,7 @@ module _ (reverse : Bool) (n : ℕ) (packed before : List ℕ) (before-reverse :
         (lo, q, made))
 
 module _ (bam before : List ℕ) (before-reverse : Bool) (start : Option ℕ) (room : ℕ) (r : Finished) (ls : List Listing)
-    (e : cutRecord bam before before-reverse start room ≡ done r) (keeps : keepsMM bam (r .bytes) ≡ true)
+    (e : cutRecord bam before before-reverse start room ≡ done r) (kept : keeps MM bam (r .bytes) ≡ true)
     (old : ListsOver (turnedLetters before-reverse before) bam ls) (differs : sameBytes (turnedLetters before-reverse before) (readSeq bam) ≡ false) where
   abbrev old-bases : List ℕ
   old-bases = turnedLetters before-reverse before
@@ -218,9 +218,9 @@ module _ (bam before : List ℕ) (before-reverse : Bool) (start : Option ℕ) (r
       let tag = old .tagged in
       let n = seqLength bam in
       let made = cut-made bam before before-reverse start room r e in
-      let (lo, q, is) = cut-is (isReverse bam) n (packedSeq bam) before before-reverse start (fieldsIn bam) differs (is-tagged made tag keeps) (not-removed made tag keeps) in
+      let (lo, q, is) = cut-is (isReverse bam) n (packedSeq bam) before before-reverse start (fieldsIn bam) differs (is-tagged made tag kept) (not-removed made MM (mm-text made tag kept) kept (omega arith)) in
       let (at, lies) = window-found starts old-bases (readSeq bam) lo q in
-      let (t, edits, holds) = held made tag keeps (cutEdit lo old-bases (readSeq bam)) (cut-tidy lo old-bases (readSeq bam)) 3 (cond (eqb (length before) n) none (some n))
+      let (t, edits, holds) = held made tag kept (cutEdit lo old-bases (readSeq bam)) (cut-tidy lo old-bases (readSeq bam)) 3 (cond (eqb (length before) n) none (some n))
       (λ b. lengths-some (eqb (length before) n) b n) is in
       (lo, t, at, lies, edits, holds)
 
