@@ -18,13 +18,13 @@ use Rattle.lent.specs.Outcome.{Outcome, done}
 use Rattle.packed.specs.Packed.{unpack}
 use Rattle.packed.specs.Stored.{inRead, placesInRead}
 use Rattle.record_fields.specs.Bam.{isReverse, packedSeq, seqLength}
-use Rattle.record_fields.specs.Fields.{Field, MM, MN, firstNamed}
+use Rattle.record_fields.specs.Fields.{Field, MM, MN, am, bm, firstNamed}
 use Rattle.record_rows.specs.Letters.{turnedLetters}
 use Rattle.record_says.proofs.AsItCame.{dropped-nowhere}
 use Rattle.record_says.proofs.Edits.{cut-tidy, drop-tidy, lengths-none, lengths-some, mask-tidy}
-use Rattle.record_says.proofs.Held.{Holds, held, is-tagged, mm-text, not-removed}
+use Rattle.record_says.proofs.Held.{Holds, alone-held, alone-tagged, held, is-tagged, mm-text, not-removed}
 use Rattle.record_says.proofs.Made.{Made, cut-made, drop-made, front-same, mask-made, packed-same, reverse-same, seq-length-same}
-use Rattle.record_says.specs.Says.{ListsOver, cutFieldsOf, droppedFields, fieldsIn, hasML, hasTag, keeps, maskedFields, mlOf, mmOf, readSeq, storedSeq, tagLists}
+use Rattle.record_says.specs.Says.{AloneListsOver, ListsOver, cutFieldsOf, droppedFields, fieldsIn, hasML, hasTag, isAlone, keeps, maskedFields, mlOf, mmOf, readSeq, storedSeq, tagLists}
 use Rattle.record_tags.specs.Changes.{changed, editing, isTagged, removal}
 use Rattle.record_tags.specs.Records.{Finished, cutEdit, cutFields, cutRecord, dropEdit, dropFields, dropRecord, maskEdit, maskFields, maskRecord, orRemoval, startOf, windowIn}
 use Rattle.record_tags.specs.Values.{disagrees, textOf, valuesOf}
@@ -257,3 +257,91 @@ module _ (bam before : List ℕ) (before-reverse : Bool) (start : Option ℕ) (r
           ∙ ap (λ (l : List ℕ). lists (hasML bam) l (t .text) (cond (hasML bam) (t .ml) (valuesOf (mlOf (r .bytes))))) w
           ∙ cut-keeps-the-others (hasML bam) old-bases (textOf (mmOf bam)) (valuesOf (mlOf bam)) ls (old .listed) (valuesOf (mlOf (r .bytes))) a k t fits cut;
       }
+
+-- ---- am and bm, which are edited without ML
+
+alone-low : (k : ℕ) → isAlone k ≡ true → k < 5
+alone-low k a =
+    by-test (eqb k am)
+    (λ e. omega (arith, eqb-true k am e))
+    (λ e. let b : eqb k bm ≡ true = rw e at a in omega (arith, eqb-true k bm b))
+
+module _ (k : ℕ) (alone : isAlone k ≡ true) (bam : List ℕ) (room : ℕ) (r : Finished) (ls : List Listing) (kept : keeps k bam (r .bytes) ≡ true) where
+  abbrev text-then : List ℕ
+  text-then = textOf (firstNamed k (fieldsIn bam))
+
+  abbrev text-now : List ℕ
+  text-now = textOf (firstNamed k (fieldsIn (r .bytes)))
+
+  alone-listed : {n : ℕ} {new : List Field} (m : Made n bam new r) (t : Tag) → text-now ≡ t .text
+      → lists false (readSeq (r .bytes)) text-now [] ≡ lists false (readSeq bam) (t .text) []
+  alone-listed m t h = λ j. lists false (seq-same m j) (h j) []
+
+  module _ (places : List ℕ) (e : dropRecord bam places room ≡ done r) (old : AloneListsOver (readSeq bam) k bam ls) where
+    abbrev gone : List ℕ
+    gone = placesInRead (isReverse bam) (seqLength bam) places
+
+    alone-some-dropped : isEmpty places ≡ false → AloneListsOver (readSeq (r .bytes)) k (r .bytes) (map (withoutCallsAt gone) ls)
+    unfolding dropEdit
+    alone-some-dropped p =
+        let made = drop-made bam places room r e in
+        let is = drop-is (isReverse bam) (seqLength bam) (packedSeq bam) places (fieldsIn bam) p (alone-tagged (fieldsIn bam) k alone (old .is-text))
+        (not-removed made k (old .is-text) kept (alone-low k alone)) in
+        let (t, edits, is-text, text) = alone-held made k (old .is-text) kept (dropEdit (readSeq bam) gone) (drop-tidy (readSeq bam) gone) 0 none (lengths-none 0) is alone in
+        record {
+          is-text = is-text;
+          listed = alone-listed made t text ∙ drop-keeps-the-others false (readSeq bam) text-then [] ls (old .listed) [] gone t edits;
+        }
+
+    alone-no-dropped : places ≡ [] → AloneListsOver (readSeq (r .bytes)) k (r .bytes) (map (withoutCallsAt gone) ls)
+    alone-no-dropped p =
+        let came : r .bytes ≡ bam = dropped-nowhere bam room r (subst (λ (l : List ℕ). dropRecord bam l room ≡ done r) p e) .bytes-same in
+        let same : map (withoutCallsAt gone) ls ≡ ls =
+        ap (λ (l : List ℕ). map (withoutCallsAt l) ls) (ap (placesInRead (isReverse bam) (seqLength bam)) p ∙ no-place-turned (isReverse bam) (seqLength bam))
+        ∙ none-dropped ls in
+        subst (AloneListsOver (readSeq (r .bytes)) k (r .bytes)) (sym same) (subst (λ (b : List ℕ). AloneListsOver (readSeq b) k b ls) (sym came) old)
+
+    -- After a drop am and bm list what they listed, without the calls at the places.
+    pub drop-alone-lists : AloneListsOver (readSeq (r .bytes)) k (r .bytes) (map (withoutCallsAt (placesInRead (isReverse bam) (seqLength bam) places)) ls)
+    drop-alone-lists = by-test (isEmpty places) (λ p. alone-no-dropped (no-place places p)) alone-some-dropped
+
+  -- After a mask that changed SEQ only by N, am and bm list what they listed over SEQ before, without the calls whose base is masked.
+  pub mask-alone-lists : (before : List ℕ) → maskRecord bam before room ≡ done r → AloneListsOver (turnedLetters (isReverse bam) before) k bam ls
+      → sameBytes before (storedSeq bam) ≡ false → differsByN (turnedLetters (isReverse bam) before) (readSeq bam) ≡ true
+      → AloneListsOver (readSeq (r .bytes)) k (r .bytes) (map (unmaskedCalls (readSeq bam)) ls)
+  unfolding maskEdit
+  mask-alone-lists before e old differs by-n =
+      let then = turnedLetters (isReverse bam) before in
+      let made = mask-made bam before room r e in
+      let is = mask-is (isReverse bam) (seqLength bam) (packedSeq bam) before (fieldsIn bam) differs (alone-tagged (fieldsIn bam) k alone (old .is-text))
+      (not-removed made k (old .is-text) kept (alone-low k alone)) in
+      let (t, edits, is-text, text) = alone-held made k (old .is-text) kept (maskEdit then (readSeq bam)) (mask-tidy then (readSeq bam)) 0 none (lengths-none 0) is alone in
+      let masks : edited (maskedTo (readSeq bam)) false then text-then [] ≡ done t = need-rest (eqb (length then) (length (readSeq bam))) 2 _ t edits in
+      record {
+        is-text = is-text;
+        listed =
+          alone-listed made t text
+          ∙ ap (thenLists false (readSeq bam) []) (sym masks)
+          ∙ mask-keeps-the-others false then (readSeq bam) text-then [] ls [] (old .listed) by-n;
+      }
+
+  -- After a cut am and bm list what they listed over SEQ before, without the calls whose base is no longer in SEQ, each nearer to the front by what was cut
+  -- off before it.
+  pub cut-alone-lists : (before : List ℕ) (before-reverse : Bool) (start : Option ℕ) → cutRecord bam before before-reverse start room ≡ done r
+      → AloneListsOver (turnedLetters before-reverse before) k bam ls → sameBytes (turnedLetters before-reverse before) (readSeq bam) ≡ false
+      → (lo : ℕ) × (windowStart (startOf (isReverse bam) before-reverse (length before) (seqLength bam) start) (turnedLetters before-reverse before) (readSeq bam) ≡ some lo)
+      × AloneListsOver (readSeq (r .bytes)) k (r .bytes) (map (callsHeldIn lo (readSeq bam)) ls)
+  unfolding cutEdit
+  cut-alone-lists before before-reverse start e old differs =
+      let n = seqLength bam in
+      let then = turnedLetters before-reverse before in
+      let made = cut-made bam before before-reverse start room r e in
+      let (lo, q, is) = cut-is (isReverse bam) n (packedSeq bam) before before-reverse start (fieldsIn bam) differs (alone-tagged (fieldsIn bam) k alone (old .is-text))
+      (not-removed made k (old .is-text) kept (alone-low k alone)) in
+      let (at, lies) = window-found (windowStart (startOf (isReverse bam) before-reverse (length before) n start) then (readSeq bam)) then (readSeq bam) lo q in
+      let (t, edits, is-text, text) = alone-held made k (old .is-text) kept (cutEdit lo then (readSeq bam)) (cut-tidy lo then (readSeq bam)) 3 (cond (eqb (length before) n) none (some n))
+      (λ b. lengths-some (eqb (length before) n) b n) is alone in
+      (lo, at, record {
+        is-text = is-text;
+        listed = alone-listed made t text ∙ cut-keeps-the-held false then text-then [] ls (old .listed) [] lo (readSeq bam) t lies edits;
+      })

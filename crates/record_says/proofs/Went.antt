@@ -12,7 +12,7 @@ use lib.ListN.{length}
 use borrow.Author.Tests.{eq-eqb, eqb-false, eqb-true, leb-true, lt-ltb, ltb-false, ltb-true, ne-eqb, not-true}
 use Rattle.lent.proofs.Tests.{and-true, and-true-l, and-true-r, by-test, test-ext}
 use Rattle.lent.specs.Lists.{among, any, every, isEmpty}
-use Rattle.record_fields.specs.Fields.{Field, MM, firstNamed, isField}
+use Rattle.record_fields.specs.Fields.{Field, firstNamed, isField}
 use Rattle.record_says.proofs.Made.{Made, cut-made, drop-made, fields-are, mask-made, old-fields}
 use Rattle.record_says.proofs.Pieces.{Each, each-fewer, each-fields, each-gone, each-went, there-times}
 use Rattle.record_says.specs.Says.{Remade, cut, dropped, fieldsIn, fiveNames, isGone, keeps, masked, noneTwice, times}
@@ -96,16 +96,16 @@ went-is-gone {bam} {r} (masked before room e) = went-gone (mask-made bam before 
 went-is-gone {bam} {r} (dropped places room e) = went-gone (drop-made bam places room r e)
 went-is-gone {bam} {r} (cut before before-reverse start room e) = went-gone (cut-made bam before before-reverse start room r e)
 
--- ---- MM
+-- ---- every name
 
-kept-mm : {n : ℕ} {bam : List ℕ} {new : List Field} {r : Finished} → Made n bam new r → r .went ≡ false → keeps MM bam (r .bytes) ≡ true
-kept-mm {n} {bam} {new} {r} m w =
-    let same : times MM (fieldsIn (r .bytes)) ≡ times MM new = ap (times MM) (fields-are m) in
+kept-names : {n : ℕ} {bam : List ℕ} {new : List Field} {r : Finished} → Made n bam new r → r .went ≡ false → (k : ℕ) → keeps k bam (r .bytes) ≡ true
+kept-names {n} {bam} {new} {r} m w k =
+    let same : times k (fieldsIn (r .bytes)) ≡ times k new = ap (times k) (fields-are m) in
     let more = ltb-false (length new) (length (fieldsIn bam)) (sym (ap (λ (x : Finished). x .went) (m .is)) ∙ w) in
-    eq-eqb (times MM (fieldsIn (r .bytes))) (times MM (fieldsIn bam)) (omega (arith, same, more, each-gone (m .each) MM, each-fewer (m .each) .1 MM))
+    eq-eqb (times k (fieldsIn (r .bytes))) (times k (fieldsIn bam)) (omega (arith, same, more, each-gone (m .each) k, each-fewer (m .each) .1 k))
 
--- Where no tag went, there are as many MM as there were.
-pub keeps-mm : {bam : List ℕ} {r : Finished} → Remade bam r → r .went ≡ false → keeps MM bam (r .bytes) ≡ true
-keeps-mm {bam} {r} (masked before room e) = kept-mm (mask-made bam before room r e)
-keeps-mm {bam} {r} (dropped places room e) = kept-mm (drop-made bam places room r e)
-keeps-mm {bam} {r} (cut before before-reverse start room e) = kept-mm (cut-made bam before before-reverse start room r e)
+-- Where no tag went, there are as many fields of each name as there were.
+pub none-went : {bam : List ℕ} {r : Finished} → Remade bam r → r .went ≡ false → (k : ℕ) → keeps k bam (r .bytes) ≡ true
+none-went {bam} {r} (masked before room e) = kept-names (mask-made bam before room r e)
+none-went {bam} {r} (dropped places room e) = kept-names (drop-made bam places room r e)
+none-went {bam} {r} (cut before before-reverse start room e) = kept-names (cut-made bam before before-reverse start room r e)
