@@ -8,9 +8,14 @@ use mathlib.Core.Option.{none, some}
 use lib.ListN.{length, replicate}
 use Rattle.lent.specs.Outcome.{Outcome, done, numberOf, onDone, refuse}
 use Rattle.packed.specs.Packed.{pack}
-use Rattle.record_fields.specs.Fields.{Field, joined}
+use Rattle.packed.specs.Stored.{inRead}
+use Rattle.record_fields.specs.Fields.{Field, MM, fieldsOf, firstNamed, joined, nameOf}
+use Rattle.record_says.proofs.Edited.{drop-lists}
+use Rattle.record_says.specs.Says.{ListsOver, keeps, readSeq}
 use Rattle.record_tags.specs.Records.{Finished, cutRecord, dropRecord, finishedWith, maskRecord}
 use Rattle.samtags.specs.Bytes.{ascii}
+use Rattle.samtags.specs.Reading.{lists}
+use Rattle.samtags.specs.Spots.{Call, Listing}
 
 -- a record with the name `r`, no CIGAR, a flag of one byte, SEQ and its fields
 abbrev bamOf : ℕ → List ℕ → List Field → List ℕ
@@ -159,3 +164,31 @@ reverse-cut :
     ≡ done (finishedWith false (bamOf 16 (ascii "GT") (text (ascii "MM") (ascii "C+m,0;") ∷ bytes (ascii "ML") (7 ∷ []) ∷ [])))
 unfolding cutRecord pack
 reverse-cut = refl
+
+-- ---- the promises about what a tag lists, on these records
+
+abbrev callAt : ℕ → ℕ → Call
+callAt p v = record { place = p; values = v ∷ [] }
+
+abbrev twoCalls : List ℕ → List Listing
+twoCalls header = record { header = header; calls = callAt 1 7 ∷ callAt 2 8 ∷ [] } ∷ []
+
+abbrev oneCall : List ℕ → List Listing
+oneCall header = record { header = header; calls = callAt 1 7 ∷ [] } ∷ []
+
+abbrev droppedFrom : List ℕ
+droppedFrom = dropsFrom (text (ascii "MM") (ascii "C+m?,0,0;") ∷ bytes (ascii "ML") (7 ∷ 8 ∷ []) ∷ [])
+
+abbrev droppedTo : List ℕ
+droppedTo = dropsFrom (text (ascii "MM") (ascii "C+m?,0;") ∷ bytes (ascii "ML") (7 ∷ []) ∷ [])
+
+drop-met : (dropRecord droppedFrom (2 ∷ []) 200 ≡ done (finishedWith false droppedTo)) × (keeps MM droppedFrom droppedTo ≡ true)
+unfolding dropRecord pack fieldsOf nameOf
+drop-met = (refl, refl)
+
+drop-listed : ListsOver (readSeq droppedFrom) droppedFrom (twoCalls (ascii "C+m?"))
+unfolding fieldsOf firstNamed inRead lists pack
+drop-listed = record { tagged = refl; listed = refl }
+
+drop-promise : ListsOver (readSeq droppedTo) droppedTo (oneCall (ascii "C+m?"))
+drop-promise = drop-lists droppedFrom (2 ∷ []) 200 (finishedWith false droppedTo) (twoCalls (ascii "C+m?")) (drop-met .0) (drop-met .1) drop-listed

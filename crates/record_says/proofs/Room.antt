@@ -10,6 +10,7 @@ use mathlib.Core.Option.{Option}
 use lib.Dec.{leb}
 use lib.ListN.{length}
 use borrow.Author.Tests.{le-leb}
+use Rattle.lent.proofs.Outcome.{and-then-inv, done-inj, need-rest}
 use Rattle.lent.proofs.Tests.{by-test}
 use Rattle.lent.specs.Answers.{isDone, refusesOnly}
 use Rattle.lent.specs.Lists.{every}
@@ -87,6 +88,13 @@ module _ (n : ℕ) (bam : List ℕ) (k : ℕ) (new : List Field → List Field)
           ap (λ (o : Outcome (List Field)). refusesOnly (14 ∷ 15 ∷ 1 ∷ []) o) is
       parsed w (done fs) p = by-test (inDomain (seqLength bam) k fs) (λ d. rw (d, enough room fs h w p d)) (λ d. rw d)
 
+-- a record that some room is enough for, asked for another room
+other-room : (o : Outcome Finished) (room other : ℕ) (r : Finished) → withRoom room o ≡ done r → withRoom other o ≡ inRoom other r
+other-room o room other r e =
+    let (w, is, fits) = and-then-inv o (inRoom room) r e in
+    let same : w ≡ r = done-inj (need-rest (leb (length (w .bytes)) room) 12 (done w) r fits) in
+    ap (withRoom other) is ∙ ap (inRoom other) same
+
 module _ (bam before : List ℕ) where
   -- A mask with any room is the mask with as much room as the record takes, asked for room: 12 exactly where the new record is longer.
   pub mask-in-room : (room : ℕ) → maskRecord bam before room ≡ withRoom room (maskRecord bam before (length bam))
@@ -101,6 +109,10 @@ module _ (bam before : List ℕ) where
   mask-never-12 room h =
       only 0 bam (length before) (maskFields (isReverse bam) (seqLength bam) (packedSeq bam) before)
       (λ fs are fits. mask-each fs are fits (isReverse bam) (seqLength bam) (packedSeq bam) before) room (omega arith)
+
+  -- A mask that was done answers with any other room: 12 exactly where its record is longer, else the same record.
+  pub mask-other-room : (room other : ℕ) (r : Finished) → maskRecord bam before room ≡ done r → maskRecord bam before other ≡ inRoom other r
+  mask-other-room room other r e = mask-in-room other ∙ other-room (maskRecord bam before (length bam)) room other r (sym (mask-in-room room) ∙ e)
 
 module _ (bam places : List ℕ) where
   -- A drop with any room is the drop with as much room as the record takes, asked for room: 12 exactly where the new record is longer.
@@ -117,6 +129,10 @@ module _ (bam places : List ℕ) where
       only 0 bam 0 (dropFields (isReverse bam) (seqLength bam) (packedSeq bam) places)
       (λ fs are fits. drop-each fs are fits (isReverse bam) (seqLength bam) (packedSeq bam) places) room (omega arith)
 
+  -- A drop that was done answers with any other room: 12 exactly where its record is longer, else the same record.
+  pub drop-other-room : (room other : ℕ) (r : Finished) → dropRecord bam places room ≡ done r → dropRecord bam places other ≡ inRoom other r
+  drop-other-room room other r e = drop-in-room other ∙ other-room (dropRecord bam places (length bam)) room other r (sym (drop-in-room room) ∙ e)
+
 module _ (bam before : List ℕ) (before-reverse : Bool) (start : Option ℕ) where
   -- A cut with any room is the cut with three bytes more than the record takes, asked for room: 12 exactly where the new record is longer.
   pub cut-in-room : (room : ℕ) → cutRecord bam before before-reverse start room ≡ withRoom room (cutRecord bam before before-reverse start (length bam + 3))
@@ -131,3 +147,9 @@ module _ (bam before : List ℕ) (before-reverse : Bool) (start : Option ℕ) wh
   cut-never-12 room h =
       only 3 bam (length before) (cutFields (isReverse bam) (seqLength bam) (packedSeq bam) before before-reverse start)
       (λ fs are fits. cut-each fs are fits (isReverse bam) (seqLength bam) (packedSeq bam) before before-reverse start) room h
+
+  -- A cut that was done answers with any other room: 12 exactly where its record is longer, else the same record.
+  pub cut-other-room : (room other : ℕ) (r : Finished) → cutRecord bam before before-reverse start room ≡ done r
+      → cutRecord bam before before-reverse start other ≡ inRoom other r
+  cut-other-room room other r e =
+      cut-in-room other ∙ other-room (cutRecord bam before before-reverse start (length bam + 3)) room other r (sym (cut-in-room room) ∙ e)
