@@ -135,3 +135,51 @@ first-gone k n c (f ∷ fs) are s e a =
         let (m, after-sound) = sound-after c f fs s i in
         let few = each-fewer (each-changed m (after (nameOf f) c) fs (and-true-r (isField f) (every isField fs) are) after-sound) .1 k in
         rw (is, t) (omega (arith, few))
+
+-- ---- the first field becomes one field of its name, and there are as many
+
+idle-counted : (k n : ℕ) (c : Changes) (fs : List Field) → every isField fs ≡ true → Sound n c fs → c k ≡ [] → times k (changed c fs) ≡ times k fs
+unfolding changed
+idle-counted k n c [] are s q = refl
+idle-counted k n c (f ∷ fs) are s q =
+    let i = and-true-l (isField f) (every isField fs) are in
+    let more = and-true-r (isField f) (every isField fs) are in
+    let (m, after-sound) = sound-after c f fs s i in
+    by-test (eqb (nameOf f) k)
+    (λ h.
+    let is : nameOf f ≡ k = eqb-true (nameOf f) k h in
+    let none : applied (c (nameOf f)) f ≡ f ∷ [] = ap (λ (l : List Change). applied l f) (ap c is ∙ q) in
+    let again = idle-counted k m (after (nameOf f) c) fs more after-sound (rw (eq-eqb k (nameOf f) (sym is), q)) in
+    rw (none, h) (ap suc again))
+    (λ h.
+    let d = eqb-false (nameOf f) k h in
+    rw h
+    (times-past k (nameOf f) (applied (c (nameOf f)) f) (changed (after (nameOf f) c) fs) (names c f fs s i) d
+    ∙ idle-counted k m (after (nameOf f) c) fs more after-sound (other-same c f fs s i k d ∙ q)))
+
+pub first-counted : (k n : ℕ) (c : Changes) (fs : List Field) (g : Field) → every isField fs ≡ true → Sound n c fs → isEmpty (firstNamed k fs) ≡ false
+    → applied (c k) (firstNamed k fs) ≡ g ∷ [] → nameOf g ≡ k → rest (c k) ≡ [] → times k (changed c fs) ≡ times k fs
+unfolding changed firstNamed
+first-counted k n c [] g are s e a q l = let z : isEmpty {A = ℕ} [] ≡ false = e in let y : _≡_ {A = ℕ} 0 1 = cc in absurd (omega arith)
+first-counted k n c (f ∷ fs) g are s e a q l =
+    by-test (eqb (nameOf f) k)
+    (λ h. here h (eqb-true (nameOf f) k h))
+    (λ h.
+    let d = eqb-false (nameOf f) k h in
+    let i = and-true-l (isField f) (every isField fs) are in
+    let (m, after-sound) = sound-after c f fs s i in
+    let later = first-later k f fs d in
+    let same = other-same c f fs s i k d in
+    rw h
+    (times-past k (nameOf f) (applied (c (nameOf f)) f) (changed (after (nameOf f) c) fs) (names c f fs s i) d
+    ∙ first-counted k m (after (nameOf f) c) fs g (and-true-r (isField f) (every isField fs) are) after-sound (ap isEmpty (sym later) ∙ e)
+    ((λ j. applied (same j) (sym later j)) ∙ a) q (ap rest same ∙ l)))
+  where
+    here : eqb (nameOf f) k ≡ true → nameOf f ≡ k → times k (applied (c (nameOf f)) f ++ changed (after (nameOf f) c) fs) ≡ times k (f ∷ fs)
+    here t h =
+        let i = and-true-l (isField f) (every isField fs) are in
+        let is : applied (c (nameOf f)) f ≡ g ∷ [] = (λ j. applied (c (h j)) (sym (first-here k f fs h) j)) ∙ a in
+        let (m, after-sound) = sound-after c f fs s i in
+        let idle : after (nameOf f) c k ≡ [] = rw (eq-eqb k (nameOf f) (sym h)) l in
+        let again = idle-counted k m (after (nameOf f) c) fs (and-true-r (isField f) (every isField fs) are) after-sound idle in
+        rw (is, t, eq-eqb (nameOf g) k q) (ap suc again)

@@ -66,7 +66,7 @@ pub record Holds (old new : List ℕ) (t : Tag) : Type 0 where
   pub ml-there : hasML new ≡ hasML old
   pub ml : hasML old ≡ true → valuesOf (mlOf new) ≡ t .ml
 
-text-there : (f : Field) → isText f ≡ true → isEmpty f ≡ false
+pub text-there : (f : Field) → isText f ≡ true → isEmpty f ≡ false
 text-there [] t = let z : _≡_ {A = ℕ} 0 1 = cc in absurd (omega arith)
 text-there (x ∷ xs) t = refl
 
@@ -74,7 +74,7 @@ array-there : (f : Field) → isByteArray f ≡ true → isEmpty f ≡ false
 array-there [] t = let z : _≡_ {A = ℕ} 0 1 = cc in absurd (omega arith)
 array-there (x ∷ xs) t = refl
 
-empty-is : (f : Field) → isEmpty f ≡ true → f ≡ []
+pub empty-is : (f : Field) → isEmpty f ≡ true → f ≡ []
 empty-is [] e = refl
 empty-is (x ∷ xs) e = let z : _≡_ {A = ℕ} 0 1 = cc in absurd (omega arith)
 

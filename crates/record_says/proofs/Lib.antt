@@ -10,4 +10,5 @@ pub mod Room
 pub mod Firsts
 pub mod Held
 pub mod Edited
+pub mod KeepsMM
 pub mod Examples
