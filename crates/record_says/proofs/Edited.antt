@@ -59,18 +59,18 @@ none-dropped : (ls : List Listing) → map (withoutCallsAt []) ls ≡ ls
 none-dropped [] = refl
 none-dropped (l ∷ ls) = λ j. record { header = l .header; calls = filter-all (l .calls) j } ∷ none-dropped ls j
 
-drop-is : (reverse : Bool) (n : ℕ) (packed places : List ℕ) (fs : List Field) → isEmpty places ≡ false → isTagged fs ≡ true
+pub drop-is : (reverse : Bool) (n : ℕ) (packed places : List ℕ) (fs : List Field) → isEmpty places ≡ false → isTagged fs ≡ true
     → (dropFields reverse n packed places fs ≡ changed removal fs → ⊥)
     → dropFields reverse n packed places fs ≡ changed (editing (dropEdit (inRead reverse n packed) (placesInRead reverse n places)) none fs) fs
 unfolding dropFields
 drop-is reverse n packed places fs p t h =
     by-test (disagrees n (firstNamed MN fs)) (λ d. absurd (h (rw (p, t, d)))) (λ d. rw (p, t, d))
 
-no-place : (xs : List ℕ) → isEmpty xs ≡ true → xs ≡ []
+pub no-place : (xs : List ℕ) → isEmpty xs ≡ true → xs ≡ []
 no-place [] e = refl
 no-place (x ∷ xs) e = let z : _≡_ {A = ℕ} 0 1 = cc in absurd (omega arith)
 
-no-place-turned : (reverse : Bool) (n : ℕ) → placesInRead reverse n [] ≡ []
+pub no-place-turned : (reverse : Bool) (n : ℕ) → placesInRead reverse n [] ≡ []
 no-place-turned true n = refl
 no-place-turned false n = refl
 

@@ -9,10 +9,10 @@ use mathlib.Core.List.{List, [], _∷_, _++_, map}
 use mathlib.Core.Option.{Option, none, some}
 use lib.Dec.{eqb}
 use lib.ListN.{length}
-use borrow.Author.Tests.{eq-eqb, eqb-true}
+use borrow.Author.Tests.{eq-eqb, eqb-true, not-true}
 use Rattle.lent.proofs.Lists.{every-ext, every-map, every-not}
 use Rattle.lent.proofs.Outcome.{and-then-inv, done-inj, need-test}
-use Rattle.lent.proofs.Tests.{and-true-l, and-true-r, by-test}
+use Rattle.lent.proofs.Tests.{and-true-l, and-true-r, by-test, test-ext}
 use Rattle.lent.specs.Lists.{among, any, every, isEmpty}
 use Rattle.lent.specs.Outcome.{Outcome, done, need}
 use Rattle.packed.specs.Packed.{unpack}
@@ -23,9 +23,10 @@ use Rattle.record_fields.specs.Fields.{Field, MM, MN, firstNamed}
 use Rattle.record_rows.proofs.LetterLaws.{length-turned}
 use Rattle.record_rows.specs.Letters.{turnedLetters}
 
+use Rattle.record_says.proofs.Edited.{drop-is, no-place, no-place-turned}
 use Rattle.record_says.proofs.Edits.{Tidy, cut-tidy, drop-tidy, editing-sound, first-is, lengths-none, lengths-some, mask-tidy}
 use Rattle.record_says.proofs.Firsts.{first-counted}
-use Rattle.record_says.proofs.Held.{empty-is, text-there}
+use Rattle.record_says.proofs.Held.{empty-is, held, not-removed, text-there}
 use Rattle.record_says.proofs.Made.{Made, cut-made, drop-made, fields-are, mask-made, old-fields}
 use Rattle.record_says.proofs.Pieces.{Lengths, Sound, field-long}
 use Rattle.record_says.specs.Says.{ListsOver, fieldsIn, hasML, hasTag, keeps, mlOf, mmOf, readSeq, storedSeq, tagLists, times}
@@ -228,18 +229,58 @@ module _ (reverse : Bool) (n : ℕ) (packed places : List ℕ) (fs : List Field)
   unfolding dropFields
   drop-edits z agrees = rw (z, agrees)
 
--- A drop that takes no call under a header without '?' keeps MM, if the reader accepts the tag over SEQ and MN agrees with SEQ.
-pub drop-keeps : (bam places : List ℕ) (room : ℕ) (r : Finished) (ls : List Listing) → dropRecord bam places room ≡ done r → ListsOver (readSeq bam) bam ls
-    → disagrees (seqLength bam) (firstNamed MN (fieldsIn bam)) ≡ false
-    → any (listsUnmarked (placesInRead (isReverse bam) (seqLength bam) places)) ls ≡ false → keeps MM bam (r .bytes) ≡ true
-unfolding dropEdit
-drop-keeps bam places room r ls e old agrees free =
-    let tag = old .tagged in
-    let fs = fieldsIn bam in
-    let ps = placesInRead (isReverse bam) (seqLength bam) places in
-    let made = drop-made bam places room r e in
-    let (t, drops) = drop-done ps (hasML bam) (readSeq bam) (textOf (mmOf bam)) (valuesOf (mlOf bam)) ls (old .listed) free in
-    by-test (isEmpty places || not (isTagged fs))
-    (λ z. same-kept MM made (drop-stays (isReverse bam) (seqLength bam) (packedSeq bam) places fs z))
-    (λ z. edit-kept made tag (dropEdit (readSeq bam) ps) (drop-tidy (readSeq bam) ps) 0 none (lengths-none 0)
-    (drop-edits (isReverse bam) (seqLength bam) (packedSeq bam) places fs z agrees) t drops)
+none-unmarked : (ls : List Listing) → any (listsUnmarked []) ls ≡ false
+unfolding listsUnmarked
+none-unmarked [] = refl
+none-unmarked (l ∷ ls) = rw (no-call (l .calls)) (none-unmarked ls)
+  where
+    no-call : (cs : List Call) → any (λ (c : Call). among [] (c .place)) cs ≡ false
+    no-call [] = refl
+    no-call (c ∷ cs) = no-call cs
+
+-- a drop that is done takes no such call
+drop-free : (ps : List ℕ) (ml? : Bool) (seq text ml : List ℕ) (ls : List Listing) (t : Tag) → lists ml? seq text ml ≡ done ls
+    → edited (droppingAt ps) ml? seq text ml ≡ done t → any (listsUnmarked ps) ls ≡ false
+unfolding lists
+drop-free ps ml? seq text ml ls t e d =
+    let (gs, reads, is) = and-then-inv (read ml? nowhere seq text ml) _ ls e in
+    let may = need-test (every (mayDrop (among ps)) gs) 10 (done (written (map (dropGroup (among ps)) gs))) t (sym (drop-answers ml? seq text ml gs reads ps) ∙ d) in
+    not-true (any (listsUnmarked ps) ls) (ap (λ (l : List Listing). not (any (listsUnmarked ps) l)) (sym (done-inj is)) ∙ sym (all-may-drop ps gs) ∙ may)
+
+module _ (bam places : List ℕ) (room : ℕ) (r : Finished) (ls : List Listing) (e : dropRecord bam places room ≡ done r) (old : ListsOver (readSeq bam) bam ls) where
+  abbrev ps : List ℕ
+  ps = placesInRead (isReverse bam) (seqLength bam) places
+
+  kept-is-free : keeps MM bam (r .bytes) ≡ true → any (listsUnmarked ps) ls ≡ false
+  unfolding dropEdit
+  kept-is-free kept =
+      let tag = old .tagged in
+      let made = drop-made bam places room r e in
+      by-test (isEmpty places)
+      (λ z.
+      let none : ps ≡ [] = ap (placesInRead (isReverse bam) (seqLength bam)) (no-place places z) ∙ no-place-turned (isReverse bam) (seqLength bam) in
+      ap (λ (l : List ℕ). any (listsUnmarked l) ls) none ∙ none-unmarked ls)
+      (λ z.
+      let is = drop-is (isReverse bam) (seqLength bam) (packedSeq bam) places (fieldsIn bam) z (tagged made tag)
+      (not-removed made MM (mm-is-text made tag) kept (omega arith)) in
+      let (t, drops, holds) = held made tag kept (dropEdit (readSeq bam) ps) (drop-tidy (readSeq bam) ps) 0 none (lengths-none 0) is in
+      drop-free ps (hasML bam) (readSeq bam) (textOf (mmOf bam)) (valuesOf (mlOf bam)) ls t (old .listed) drops)
+
+  free-is-kept : disagrees (seqLength bam) (firstNamed MN (fieldsIn bam)) ≡ false → any (listsUnmarked ps) ls ≡ false → keeps MM bam (r .bytes) ≡ true
+  unfolding dropEdit
+  free-is-kept agrees free =
+      let tag = old .tagged in
+      let fs = fieldsIn bam in
+      let made = drop-made bam places room r e in
+      let (t, drops) = drop-done ps (hasML bam) (readSeq bam) (textOf (mmOf bam)) (valuesOf (mlOf bam)) ls (old .listed) free in
+      by-test (isEmpty places || not (isTagged fs))
+      (λ z. same-kept MM made (drop-stays (isReverse bam) (seqLength bam) (packedSeq bam) places fs z))
+      (λ z. edit-kept made tag (dropEdit (readSeq bam) ps) (drop-tidy (readSeq bam) ps) 0 none (lengths-none 0)
+      (drop-edits (isReverse bam) (seqLength bam) (packedSeq bam) places fs z agrees) t drops)
+
+  -- If the reader accepts the tag over SEQ and MN agrees with SEQ, a drop keeps MM exactly where it takes no call under a header without '?'.
+  pub drop-keeps : disagrees (seqLength bam) (firstNamed MN (fieldsIn bam)) ≡ false
+      → keeps MM bam (r .bytes) ≡ not (any (listsUnmarked (placesInRead (isReverse bam) (seqLength bam) places)) ls)
+  drop-keeps agrees =
+      test-ext (keeps MM bam (r .bytes)) (not (any (listsUnmarked ps) ls)) (λ k. ap not (kept-is-free k))
+      (λ f. free-is-kept agrees (not-true (any (listsUnmarked ps) ls) f))
