@@ -1,6 +1,6 @@
 -- Where no tag is edited and none is removed, every byte is as it came, and no field went.
 -- Assumes nothing.
-use mathlib.Core.Path.{_≡_, refl, sym, ap, _∙_, subst}
+use mathlib.Core.Path.{_≡_, refl, sym, ap, _∙_}
 use Prim.Native.Nat.{ℕ}
 use native.Mathlib.Omega.{arith}
 use mathlib.Core.Bool.{Bool, true, false, not, _&&_, _||_, or-true}
@@ -17,9 +17,9 @@ use Rattle.record_fields.specs.Bam.{headSize, isReverse, packedSeq, seqLength}
 use Rattle.record_fields.specs.Fields.{Field, MN, firstNamed, joined}
 use Rattle.record_rows.specs.Letters.{turnedLetters}
 use Rattle.record_says.proofs.Made.{Made, bytes-are, came, cut-made, drop-made, fields-are, mask-made}
-use Rattle.record_says.specs.Says.{AsItCame, Remade, cut, cutFieldsOf, dropped, droppedFields, fieldsIn, masked, maskedFields, readSeq, storedSeq}
+use Rattle.record_says.specs.Says.{AsItCame, Remade, cut, dropped, fieldsIn, masked, readSeq, storedSeq}
 use Rattle.record_tags.specs.Changes.{isTagged}
-use Rattle.record_tags.specs.Records.{Finished, cutFields, cutRecord, dropFields, dropRecord, finished, maskFields, maskRecord}
+use Rattle.record_tags.specs.Records.{Finished, cutFields, cutRecord, dropFields, dropRecord, maskFields, maskRecord}
 use Rattle.record_tags.specs.Values.{disagrees}
 use Rattle.samtags.specs.Edits.{sameBytes}
 

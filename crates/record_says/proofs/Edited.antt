@@ -4,17 +4,17 @@
 use mathlib.Core.Path.{_≡_, refl, sym, ap, _∙_, subst}
 use Prim.Native.Nat.{ℕ, _+_, _≤_, _<_}
 use native.Mathlib.Omega.{arith}
-use mathlib.Core.Bool.{Bool, true, false, cond, not, _&&_, _||_}
+use mathlib.Core.Bool.{Bool, true, false, cond, _&&_}
 use mathlib.Core.List.{List, [], _∷_, map}
 use mathlib.Core.Option.{Option, none, some}
-use lib.Dec.{leb, ltb, eqb}
+use lib.Dec.{leb, eqb}
 use lib.ListN.{length, drop}
-use borrow.Author.Tests.{eq-eqb, eqb-true, le-ltb, ne-eqb}
-use Rattle.lent.proofs.Lists.{filter-all, map-ext}
+use borrow.Author.Tests.{eqb-true, ne-eqb}
+use Rattle.lent.proofs.Lists.{filter-all}
 use Rattle.lent.proofs.Outcome.{need-rest}
 use Rattle.lent.proofs.Tests.{and-true-l, and-true-r, by-test}
-use Rattle.lent.specs.Lists.{filter, isEmpty}
-use Rattle.lent.specs.Outcome.{Outcome, done}
+use Rattle.lent.specs.Lists.{isEmpty}
+use Rattle.lent.specs.Outcome.{done}
 use Rattle.packed.specs.Packed.{unpack}
 use Rattle.packed.specs.Stored.{inRead, placesInRead}
 use Rattle.record_fields.specs.Bam.{isReverse, packedSeq, seqLength}
@@ -24,16 +24,16 @@ use Rattle.record_says.proofs.AsItCame.{dropped-nowhere}
 use Rattle.record_says.proofs.Edits.{cut-tidy, drop-tidy, lengths-none, lengths-some, mask-tidy}
 use Rattle.record_says.proofs.Held.{Holds, alone-held, alone-tagged, held, is-tagged, mm-text, not-removed}
 use Rattle.record_says.proofs.Made.{Made, cut-made, drop-made, front-same, mask-made, packed-same, reverse-same, seq-length-same}
-use Rattle.record_says.specs.Says.{AloneListsOver, ListsOver, cutFieldsOf, droppedFields, fieldsIn, hasML, hasTag, isAlone, keeps, maskedFields, mlOf, mmOf, readSeq, storedSeq, tagLists}
+use Rattle.record_says.specs.Says.{AloneListsOver, ListsOver, fieldsIn, hasML, isAlone, keeps, mlOf, mmOf, readSeq, storedSeq, tagLists}
 use Rattle.record_tags.specs.Changes.{changed, editing, isTagged, removal}
 use Rattle.record_tags.specs.Records.{Finished, cutEdit, cutFields, cutRecord, dropEdit, dropFields, dropRecord, maskEdit, maskFields, maskRecord, orRemoval, startOf, windowIn}
 use Rattle.record_tags.specs.Values.{disagrees, textOf, valuesOf}
 use Rattle.samtags.proofs.Kept.{callsHeldIn, callsInWindow, cut-keeps-the-held, cut-keeps-the-others, drop-keeps-the-others, withoutCallsAt}
 use Rattle.samtags.proofs.Masking.{differsByN, mask-keeps-the-others, thenLists, unmaskedCalls}
-use Rattle.samtags.specs.Edits.{cutTo, droppingAt, edited, liesIn, maskedTo, sameBytes, windowStart}
+use Rattle.samtags.specs.Edits.{cutTo, edited, liesIn, maskedTo, sameBytes, windowStart}
 use Rattle.samtags.specs.Reading.{lists}
 use Rattle.samtags.specs.Session.{window}
-use Rattle.samtags.specs.Spots.{Call, Listing}
+use Rattle.samtags.specs.Spots.{Listing}
 use Rattle.samtags.specs.Writing.{Tag}
 
 -- SEQ did not change

@@ -1,12 +1,12 @@
 -- Under the three calls each field stays, goes or becomes one field of its name. Support for the theorems of this crate.
 -- Assumes nothing.
-use mathlib.Core.Path.{_≡_, refl, sym, ap, _∙_, subst}
+use mathlib.Core.Path.{_≡_, refl, sym, subst}
 use Prim.Native.Nat.{ℕ, _+_, _≤_, _<_}
 use native.Mathlib.Omega.{arith}
 use mathlib.Core.Bool.{Bool, true, false, cond, not, _&&_, _||_}
 use mathlib.Core.List.{List, [], _∷_, _++_, append-assoc}
 use mathlib.Core.Option.{Option, none, some}
-use lib.Dec.{leb, ltb, eqb}
+use lib.Dec.{ltb, eqb}
 use lib.ListN.{length, getD, length-drop, take}
 use borrow.Author.Tests.{eqb-false, eqb-true, leb-true, ltb-true, ne-eqb}
 use Rattle.lent.proofs.Outcome.{need-rest, need-test}
@@ -22,13 +22,13 @@ use Rattle.record_rows.specs.Letters.{turnedLetters}
 use Rattle.record_says.proofs.Pieces.{Each, Lengths, Piece, Sound, all-stay, becomes, each-changed, field-long, goes, gone, gone-sets, idle, sets, stays}
 use Rattle.record_says.proofs.Texts.{edited-lacks, field-text-lacks}
 use Rattle.record_tags.proofs.GrowthLaws.{Shrinks, length-text, length-with-text, length-with-values}
-use Rattle.record_tags.specs.Changes.{Changes, TagEdit, aloneEdited, applied, changed, editing, isTagged, lengthSets, orGoes, refuses, removal, rest, withML}
+use Rattle.record_tags.specs.Changes.{TagEdit, aloneEdited, applied, changed, editing, isTagged, lengthSets, orGoes, refuses, removal, rest, withML}
 use Rattle.record_tags.specs.Changes as changes
 use Rattle.record_tags.specs.Records.{arrayFits, cutEdit, cutFields, dropEdit, dropFields, maskEdit, maskFields, orRemoval, startOf, windowIn}
 use Rattle.record_tags.specs.Values.{disagrees, isByteArray, isText, textOf, valuesOf, withText, withValues}
 use Rattle.samtags.proofs.Length.{never-longer}
 use Rattle.samtags.proofs.Text.{lacks}
-use Rattle.samtags.specs.Edits.{Edit, cutTo, droppingAt, edited, maskedTo, sameBytes, windowStart}
+use Rattle.samtags.specs.Edits.{cutTo, droppingAt, maskedTo, sameBytes, windowStart}
 use Rattle.samtags.specs.Writing.{Tag}
 
 -- ---- the first field of a name

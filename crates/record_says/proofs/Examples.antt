@@ -6,13 +6,13 @@ use mathlib.Core.Bool.{true, false}
 use mathlib.Core.List.{List, [], _∷_, _++_}
 use mathlib.Core.Option.{none, some}
 use lib.ListN.{length, replicate}
-use Rattle.lent.specs.Outcome.{Outcome, done, numberOf, onDone, refuse}
+use Rattle.lent.specs.Outcome.{done, refuse}
 use Rattle.packed.specs.Packed.{pack}
 use Rattle.packed.specs.Stored.{inRead}
 use Rattle.record_fields.specs.Fields.{Field, MM, fieldsOf, firstNamed, joined, nameOf}
 use Rattle.record_says.proofs.Edited.{drop-lists}
 use Rattle.record_says.specs.Says.{ListsOver, keeps, readSeq}
-use Rattle.record_tags.specs.Records.{Finished, cutRecord, dropRecord, finishedWith, maskRecord}
+use Rattle.record_tags.specs.Records.{cutRecord, dropRecord, finishedWith, maskRecord}
 use Rattle.samtags.specs.Bytes.{ascii}
 use Rattle.samtags.specs.Reading.{lists}
 use Rattle.samtags.specs.Spots.{Call, Listing}

@@ -2,23 +2,23 @@
 -- crate.
 -- Assumes nothing.
 use mathlib.Core.Path.{_≡_, refl, sym, ap, _∙_, subst}
-use Prim.Native.Nat.{ℕ, suc, _+_, _≤_, _<_}
+use Prim.Native.Nat.{ℕ, suc, _+_, _<_}
 use native.Mathlib.Omega.{arith}
-use mathlib.Core.Bool.{Bool, true, false, cond, _&&_}
+use mathlib.Core.Bool.{Bool, true, false}
 use mathlib.Core.List.{List, [], _∷_, _++_}
-use lib.Dec.{leb, eqb}
+use lib.Dec.{eqb}
 use lib.ListN.{length}
 use borrow.Author.Tests.{eq-eqb, eqb-false, eqb-true, le-leb, ne-eqb}
 use Rattle.lent.proofs.Tests.{and-true-l, and-true-r, by-test}
-use Rattle.lent.specs.Lists.{every, filter, isEmpty}
+use Rattle.lent.specs.Lists.{every, isEmpty}
 use Rattle.record_fields.proofs.Kept.{name-kept}
 use Rattle.record_fields.specs.Bam.{wordBytes}
 use Rattle.record_fields.specs.Fields.{Field, MN, firstNamed, isField, nameOf}
 use Rattle.record_says.proofs.Pieces.{Lengths, Piece, Sound, becomes, each-changed, each-fewer, field-long, goes, gone, gone-sets, idle, sets, sound-next, stays}
 use Rattle.record_says.specs.Says.{times}
 use Rattle.record_tags.proofs.PlanLaws.{first-here, first-later, there}
-use Rattle.record_tags.specs.Changes.{Change, Changes, after, applied, changed, lengthSet, rest}
-use Rattle.record_tags.specs.Values.{isInteger, withInteger}
+use Rattle.record_tags.specs.Changes.{Change, Changes, after, applied, changed, rest}
+use Rattle.record_tags.specs.Values.{isInteger}
 
 abbrev isNamed : ℕ → Field → Bool
 isNamed k f = eqb (nameOf f) k

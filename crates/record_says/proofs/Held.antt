@@ -3,21 +3,21 @@
 use mathlib.Core.Path.{_≡_, refl, sym, ap, _∙_, subst}
 use Prim.Native.Nat.{ℕ, _+_, _-_, _≤_, _<_}
 use native.Mathlib.Omega.{arith}
-use mathlib.Core.Bool.{Bool, true, false, cond, not, _&&_, _||_, or-true}
+use mathlib.Core.Bool.{Bool, true, false, cond, not, _||_, or-true}
 use mathlib.Core.List.{List, [], _∷_, _++_, append-assoc}
 use mathlib.Core.Option.{Option}
-use lib.Dec.{leb, eqb}
-use lib.ListN.{List·getD-append, length, getD, take, drop, length-append}
+use lib.Dec.{eqb}
+use lib.ListN.{List·getD-append, length, take, drop, length-append}
 use lib.Seq.{drop-at, getD-take, length-take-le, take-append-seam}
 use borrow.Author.Tests.{eq-eqb, eqb-true, lt-ltb, not-true}
-use Rattle.lent.proofs.Outcome.{need-rest, need-test}
+use Rattle.lent.proofs.Outcome.{need-rest}
 use Rattle.lent.proofs.Tests.{and-true, and-true-l, and-true-r, by-test}
-use Rattle.lent.specs.Lists.{every, isEmpty}
+use Rattle.lent.specs.Lists.{isEmpty}
 use Rattle.lent.specs.Outcome.{Outcome, done, need, refused}
 use Rattle.lent.specs.declared.Refusal.{Refusal}
 use Rattle.record_fields.proofs.Kept.{name-kept}
 use Rattle.record_fields.specs.Bam.{wordBytes}
-use Rattle.record_fields.specs.Fields.{Field, ML, MM, am, bm, firstNamed, isField, nameOf}
+use Rattle.record_fields.specs.Fields.{Field, ML, MM, am, bm, firstNamed}
 use Rattle.record_says.proofs.Edits.{Tidy, editing-sound, first-is, removal-sound}
 use Rattle.record_says.proofs.Firsts.{first-gone, first-kept}
 use Rattle.record_says.proofs.Made.{Made, fields-are, old-fields}
@@ -26,8 +26,8 @@ use Rattle.record_says.specs.Says.{fieldsIn, hasML, hasTag, isAlone, kee
 use Rattle.record_tags.proofs.GrowthLaws.{length-with-text}
 use Rattle.record_tags.specs.Changes.{Changes, TagEdit, aloneEdited, applied, changed, editing, isTagged, lengthSets, removal, withML}
 use Rattle.record_tags.specs.Changes as changes
-use Rattle.record_tags.specs.Records.{Finished, arrayFits}
-use Rattle.record_tags.specs.Values.{isByteArray, isText, textOf, typeOf, valuesOf, withText, withValues}
+use Rattle.record_tags.specs.Records.{Finished}
+use Rattle.record_tags.specs.Values.{isByteArray, isText, textOf, valuesOf, withText, withValues}
 use Rattle.samtags.specs.Writing.{Tag}
 
 -- ---- a field with a new text or new values

@@ -2,25 +2,24 @@
 -- keeps MM exactly where it takes no call under a header that doesn't end in '?'.
 -- Assumes nothing.
 use mathlib.Core.Path.{_≡_, refl, sym, ap, _∙_, subst}
-use Prim.Native.Nat.{ℕ, suc, _≤_}
+use Prim.Native.Nat.{ℕ, suc}
 use native.Mathlib.Omega.{arith}
-use mathlib.Core.Bool.{Bool, true, false, cond, not, _&&_, _||_, or-true}
+use mathlib.Core.Bool.{Bool, true, false, cond, not, _&&_, _||_}
 use mathlib.Core.List.{List, [], _∷_, _++_, map}
 use mathlib.Core.Option.{Option, none, some}
 use lib.Dec.{eqb}
 use lib.ListN.{length}
-use borrow.Author.Tests.{eq-eqb, eqb-true, not-true}
+use borrow.Author.Tests.{eq-eqb, not-true}
 use Rattle.lent.proofs.Lists.{every-ext, every-map, every-not}
 use Rattle.lent.proofs.Outcome.{and-then-inv, done-inj, need-test}
 use Rattle.lent.proofs.Tests.{and-true-l, and-true-r, by-test, test-ext}
 use Rattle.lent.specs.Lists.{among, any, every, isEmpty}
-use Rattle.lent.specs.Outcome.{Outcome, done, need}
+use Rattle.lent.specs.Outcome.{done}
 use Rattle.packed.specs.Packed.{unpack}
 use Rattle.packed.specs.Stored.{inRead, placesInRead}
 use Rattle.record_fields.proofs.Kept.{name-kept}
 use Rattle.record_fields.specs.Bam.{isReverse, packedSeq, seqLength}
 use Rattle.record_fields.specs.Fields.{Field, MM, MN, firstNamed}
-use Rattle.record_rows.proofs.LetterLaws.{length-turned}
 use Rattle.record_rows.specs.Letters.{turnedLetters}
 
 use Rattle.record_says.proofs.Edited.{drop-is, no-place, no-place-turned}
@@ -28,8 +27,8 @@ use Rattle.record_says.proofs.Edits.{Tidy, cut-tidy, drop-tidy, editing
 use Rattle.record_says.proofs.Firsts.{first-counted}
 use Rattle.record_says.proofs.Held.{empty-is, held, not-removed, text-there}
 use Rattle.record_says.proofs.Made.{Made, cut-made, drop-made, fields-are, mask-made, old-fields}
-use Rattle.record_says.proofs.Pieces.{Lengths, Sound, field-long}
-use Rattle.record_says.specs.Says.{ListsOver, fieldsIn, hasML, hasTag, keeps, mlOf, mmOf, readSeq, storedSeq, tagLists, times}
+use Rattle.record_says.proofs.Pieces.{Lengths, field-long}
+use Rattle.record_says.specs.Says.{ListsOver, fieldsIn, hasML, hasTag, keeps, mlOf, mmOf, readSeq, storedSeq, times}
 use Rattle.record_tags.specs.Changes.{TagEdit, changed, editing, isTagged, lengthSets, withML}
 use Rattle.record_tags.specs.Changes as changes
 use Rattle.record_tags.specs.Records.{Finished, cutEdit, cutFields, cutRecord, dropEdit, dropFields, dropRecord, maskEdit, maskFields, maskRecord, startOf, windowIn}

@@ -1,28 +1,28 @@
 -- A call on a record that was done, taken apart: the fields that came, those that it leaves, and the bytes. Support for the theorems of this crate.
 -- Assumes nothing.
-use mathlib.Core.Path.{_≡_, refl, sym, ap, _∙_, subst}
+use mathlib.Core.Path.{_≡_, sym, ap, _∙_, subst}
 use Prim.Native.Nat.{ℕ, _+_, _-_, _*_, _/_, _%_, _≤_, _<_}
 use native.Mathlib.Omega.{arith}
-use mathlib.Core.Bool.{Bool, true, false, cond, not, _&&_}
-use mathlib.Core.List.{List, [], _∷_, _++_}
+use mathlib.Core.Bool.{Bool, true, _&&_}
+use mathlib.Core.List.{List, _++_}
 use mathlib.Core.Option.{Option}
-use lib.Dec.{leb, ltb, eqb}
+use lib.Dec.{leb, eqb}
 use lib.ListN.{length, getD, take, drop, length-append, length-drop, take-append-drop}
 use lib.Seq.{drop-at, getD-take, length-take-le, take-append-seam, take-take}
 use borrow.Author.Tests.{le-leb, leb-true}
 use Rattle.lent.proofs.Lists.{drop-take}
 use Rattle.lent.proofs.Outcome.{and-then-inv, done-inj, need-rest, need-test}
-use Rattle.lent.proofs.Tests.{and-true, and-true-l, and-true-r, by-test}
+use Rattle.lent.proofs.Tests.{and-true, and-true-l, and-true-r}
 use Rattle.lent.specs.Lists.{every}
-use Rattle.lent.specs.Outcome.{Outcome, andThen, done, need}
+use Rattle.lent.specs.Outcome.{done}
 use Rattle.packed.specs.Packed.{bytesFor}
 use Rattle.record_fields.proofs.Inverse.{fields-each, fields-joined, joined-fields}
-use Rattle.record_fields.specs.Bam.{half, headSize, isReverse, isWhole, packedSeq, seqLength, seqStart, word}
+use Rattle.record_fields.specs.Bam.{half, headSize, isReverse, isWhole, packedSeq, seqLength, seqStart}
 use Rattle.record_fields.specs.Fields.{Field, ML, MM, am, bm, fields, fieldsOf, firstNamed, isField, joined}
 use Rattle.record_says.proofs.Edits.{cut-each, drop-each, mask-each}
 use Rattle.record_says.proofs.Pieces.{Each, each-fields, each-fits}
-use Rattle.record_says.specs.Says.{Remade, cut, cutFieldsOf, dropped, droppedFields, fieldsIn, masked, maskedFields, tail}
-use Rattle.record_tags.specs.Records.{Finished, arrayFits, cutFields, cutRecord, dropFields, dropRecord, finished, inDomain, inRoom, maskFields, maskRecord, remade, textFits}
+use Rattle.record_says.specs.Says.{cutFieldsOf, droppedFields, fieldsIn, maskedFields, tail}
+use Rattle.record_tags.specs.Records.{Finished, arrayFits, cutFields, cutRecord, dropFields, dropRecord, finished, inDomain, maskFields, maskRecord, remade, textFits}
 
 -- ---- the head
 

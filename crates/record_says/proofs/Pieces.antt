@@ -1,11 +1,11 @@
 -- Field by field: each field stays, goes or becomes one field of its name. Support for the theorems of this crate.
 -- Assumes nothing.
-use mathlib.Core.Path.{_≡_, refl, sym, ap, _∙_, subst}
+use mathlib.Core.Path.{_≡_, refl, sym, _∙_, subst}
 use Prim.Native.Nat.{ℕ, suc, _+_, _≤_, _<_}
 use native.Mathlib.Omega.{arith}
 use mathlib.Core.Bool.{Bool, true, false, cond}
 use mathlib.Core.List.{List, [], _∷_, _++_}
-use lib.Dec.{leb, eqb}
+use lib.Dec.{eqb}
 use lib.ListN.{length, length-append}
 use borrow.Author.Tests.{eq-eqb, eqb-false, eqb-true, le-leb, ne-eqb}
 use Rattle.lent.proofs.Tests.{and-true, and-true-l, and-true-r, by-test}
@@ -20,7 +20,7 @@ use Rattle.record_tags.proofs.GrowthLaws.{length-with-integer}
 use Rattle.record_tags.proofs.PlanLaws.{first-here, first-later, there}
 use Rattle.record_tags.specs.Changes.{Change, Changes, after, applied, changed, lengthSet, rest}
 use Rattle.record_tags.specs.Changes as changes
-use Rattle.record_tags.specs.Values.{isInteger, withInteger}
+use Rattle.record_tags.specs.Values.{isInteger}
 
 -- what becomes of one field; it is no longer than it was
 pub data Piece (f : Field) : List Field → Type 0 where

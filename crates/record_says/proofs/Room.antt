@@ -4,7 +4,7 @@
 use mathlib.Core.Path.{_≡_, refl, sym, ap, _∙_, subst}
 use Prim.Native.Nat.{ℕ, _+_, _≤_}
 use native.Mathlib.Omega.{arith}
-use mathlib.Core.Bool.{Bool, true, false}
+use mathlib.Core.Bool.{Bool, true}
 use mathlib.Core.List.{List, [], _∷_}
 use mathlib.Core.Option.{Option}
 use lib.Dec.{leb}
@@ -18,7 +18,7 @@ use Rattle.lent.specs.Outcome.{Outcome, andThen, done, need, refuse, refused}
 use Rattle.record_fields.proofs.FieldsLaws.{only-15}
 use Rattle.record_fields.proofs.Inverse.{fields-each}
 use Rattle.record_fields.specs.Bam.{isReverse, isWhole, packedSeq, seqLength}
-use Rattle.record_fields.specs.Fields.{Field, ML, fields, fieldsOf, firstNamed, isField}
+use Rattle.record_fields.specs.Fields.{Field, ML, fields, firstNamed, isField}
 use Rattle.record_says.proofs.Edits.{cut-each, drop-each, mask-each}
 use Rattle.record_says.proofs.Made.{Made, array-fits, cut-made, drop-made, mask-made, new-fits, parsed-are}
 use Rattle.record_says.proofs.Pieces.{Each}

@@ -1,18 +1,18 @@
 -- An edited text has no NUL if the text had none: its headers are parts of the text, and everything else in it is digits, commas and semicolons. Support
 -- for the theorems of this crate.
 -- Assumes nothing.
-use mathlib.Core.Path.{_≡_, refl, sym, ap, _∙_, subst}
-use Prim.Native.Nat.{ℕ, _-_, _≤_}
+use mathlib.Core.Path.{_≡_, refl, ap, _∙_, subst}
+use Prim.Native.Nat.{ℕ, _-_}
 use native.Mathlib.Omega.{arith}
-use mathlib.Core.Bool.{Bool, true, false, cond, not, _&&_}
+use mathlib.Core.Bool.{Bool, true, false, not}
 use mathlib.Core.List.{List, [], _∷_, _++_, map}
 use lib.Dec.{leb, eqb}
-use lib.ListN.{length, getD, take, drop, length-drop}
+use lib.ListN.{length, getD, take, drop}
 use lib.Seq.{drop-at, length-take-le, take-append-seam}
 use borrow.Author.Tests.{eqb-true, leb-true, ne-eqb}
-use Rattle.lent.proofs.Lists.{every-append, every-imp, every-not}
+use Rattle.lent.proofs.Lists.{every-append, every-imp}
 use Rattle.lent.proofs.Outcome.{and-then-inv, done-inj}
-use Rattle.lent.proofs.Tests.{and-true, and-true-l, and-true-r, by-test}
+use Rattle.lent.proofs.Tests.{and-true, and-true-l, and-true-r}
 use Rattle.lent.specs.Lists.{among, every, isEmpty}
 use Rattle.lent.specs.Outcome.{done}
 use Rattle.record_fields.proofs.Kept.{text-field}
@@ -28,7 +28,7 @@ use Rattle.samtags.specs.Edits.{Edit, changed, edited}
 use Rattle.samtags.specs.Reading.{read}
 use Rattle.samtags.specs.Spots.{Group}
 use Rattle.samtags.specs.Text.{upTo}
-use Rattle.samtags.specs.Writing.{Tag, entriesText, entryText, groupText, skipsFrom, textOf, written}
+use Rattle.samtags.specs.Writing.{Tag, entriesText, groupText, skipsFrom, textOf, written}
 
 -- ---- an edited text
 

@@ -1,6 +1,6 @@
 -- What is not one of the five tags is untouched: head, name, CIGAR, SEQ, qualities, and every other field in its order.
 -- Assumes nothing.
-use mathlib.Core.Path.{_≡_, ap, _∙_}
+use mathlib.Core.Path.{ap, _∙_}
 use Prim.Native.Nat.{ℕ}
 use mathlib.Core.List.{List}
 use Rattle.lent.specs.Lists.{filter}

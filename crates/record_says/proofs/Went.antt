@@ -2,15 +2,14 @@
 -- these names was there and is there no more.
 -- Assumes nothing.
 use mathlib.Core.Path.{_≡_, refl, sym, ap, _∙_, subst}
-use Prim.Native.Nat.{ℕ, suc, zero, _+_, _≤_, _<_}
+use Prim.Native.Nat.{ℕ, suc, zero, _<_}
 use native.Mathlib.Omega.{arith}
-use mathlib.Core.Bool.{Bool, true, false, not, _&&_, _||_, or-true}
+use mathlib.Core.Bool.{Bool, true, false, not, or-true}
 use mathlib.Core.List.{List, [], _∷_}
-use mathlib.Core.Logic.{_⊎_, inl, inr}
 use lib.Dec.{leb, ltb, eqb}
 use lib.ListN.{length}
 use borrow.Author.Tests.{eq-eqb, eqb-false, eqb-true, leb-true, lt-ltb, ltb-false, ltb-true, ne-eqb, not-true}
-use Rattle.lent.proofs.Tests.{and-true, and-true-l, and-true-r, by-test, test-ext}
+use Rattle.lent.proofs.Tests.{and-true-l, and-true-r, by-test, test-ext}
 use Rattle.lent.specs.Lists.{among, any, every, isEmpty}
 use Rattle.record_fields.specs.Fields.{Field, firstNamed, isField}
 use Rattle.record_says.proofs.Made.{Made, cut-made, drop-made, fields-are, mask-made, old-fields}

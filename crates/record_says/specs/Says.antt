@@ -7,7 +7,7 @@ use mathlib.Core.List.{List, [], _∷_}
 use mathlib.Core.Option.{Option}
 use lib.Dec.{leb, eqb}
 use lib.ListN.{length, take, drop}
-use Rattle.lent.specs.Lists.{any, every, filter, isEmpty}
+use Rattle.lent.specs.Lists.{every, filter, isEmpty}
 use Rattle.lent.specs.Outcome.{Outcome, andThen, done}
 use Rattle.packed.specs.Packed.{unpack}
 use Rattle.packed.specs.Stored.{inRead}
