@@ -17,7 +17,7 @@ use Rattle.record_fields.specs.Bam.{headSize, isReverse, packedSeq, seqLength}
 use Rattle.record_fields.specs.Fields.{Field, MN, firstNamed, joined}
 use Rattle.record_rows.specs.Letters.{turnedLetters}
 use Rattle.record_says.proofs.Made.{Made, bytes-are, came, cut-made, drop-made, fields-are, mask-made}
-use Rattle.record_says.specs.Says.{AsItCame, Remade, cut, dropped, fieldsIn, masked, readSeq, storedSeq}
+use Rattle.record_says.specs.Says.{AsItCame, Remade, cut, dropped, fieldsIn, masked, mnOf, readSeq, storedSeq}
 use Rattle.record_tags.specs.Changes.{isTagged}
 use Rattle.record_tags.specs.Records.{Finished, cutFields, cutRecord, dropFields, dropRecord, maskFields, maskRecord}
 use Rattle.record_tags.specs.Values.{disagrees}
@@ -28,8 +28,8 @@ as-came {n} {bam} {new} {r} m e =
     record {
       bytes-same = bytes-are m ∙ ap (λ (fs : List Field). take (headSize bam) bam ++ joined fs) e ∙ came m;
       none-went =
-        ap (λ (x : Finished). x .went) (m .is) ∙ ap (λ (fs : List Field). ltb (length fs) (length (fieldsIn bam))) e
-        ∙ le-ltb (length (fieldsIn bam)) (length (fieldsIn bam)) (omega arith);
+          ap (λ (x : Finished). x .went) (m .is) ∙ ap (λ (fs : List Field). ltb (length fs) (length (fieldsIn bam))) e
+          ∙ le-ltb (length (fieldsIn bam)) (length (fieldsIn bam)) (omega arith);
     }
 
 same-bytes : (xs : List ℕ) → sameBytes xs xs ≡ true
@@ -56,7 +56,7 @@ unfolding dropFields
 dropped-nowhere bam room r e = as-came (drop-made bam [] room r e) refl
 
 -- A mask that left SEQ the same leaves the record as it came, if MN agrees with SEQ.
-pub masked-the-same : (bam : List ℕ) (room : ℕ) (r : Finished) → disagrees (seqLength bam) (firstNamed MN (fieldsIn bam)) ≡ false
+pub masked-the-same : (bam : List ℕ) (room : ℕ) (r : Finished) → disagrees (seqLength bam) (mnOf bam) ≡ false
     → maskRecord bam (storedSeq bam) room ≡ done r → AsItCame bam r
 unfolding maskFields
 masked-the-same bam room r d e =
@@ -74,7 +74,7 @@ cut-same reverse n packed before before-reverse start fs d s =
 
 -- A cut that left SEQ the same, in read orientation, leaves the record as it came, if MN agrees with SEQ before.
 pub cut-the-same : (bam before : List ℕ) (before-reverse : Bool) (start : Option ℕ) (room : ℕ) (r : Finished)
-    → disagrees (length before) (firstNamed MN (fieldsIn bam)) ≡ false → turnedLetters before-reverse before ≡ readSeq bam
+    → disagrees (length before) (mnOf bam) ≡ false → turnedLetters before-reverse before ≡ readSeq bam
     → cutRecord bam before before-reverse start room ≡ done r → AsItCame bam r
 cut-the-same bam before before-reverse start room r d s e =
     as-came (cut-made bam before before-reverse start room r e)

@@ -24,7 +24,7 @@ use Rattle.record_says.proofs.AsItCame.{dropped-nowhere}
 use Rattle.record_says.proofs.Edits.{cut-tidy, drop-tidy, lengths-none, lengths-some, mask-tidy}
 use Rattle.record_says.proofs.Held.{Holds, alone-held, alone-tagged, held, is-tagged, mm-text, not-removed}
 use Rattle.record_says.proofs.Made.{Made, cut-made, drop-made, front-same, mask-made, packed-same, reverse-same, seq-length-same}
-use Rattle.record_says.specs.Says.{AloneListsOver, ListsOver, fieldsIn, hasML, isAlone, keeps, mlOf, mmOf, readSeq, storedSeq, tagLists}
+use Rattle.record_says.specs.Says.{AloneListsOver, ListsOver, beginsAt, fieldsIn, hasML, isAlone, keeps, mlOf, mmOf, readPlaces, readSeq, storedSeq, tagLists}
 use Rattle.record_tags.specs.Changes.{changed, editing, isTagged, removal}
 use Rattle.record_tags.specs.Records.{Finished, cutEdit, cutFields, cutRecord, dropEdit, dropFields, dropRecord, maskEdit, maskFields, maskRecord, orRemoval, startOf, windowIn}
 use Rattle.record_tags.specs.Values.{disagrees, textOf, valuesOf}
@@ -77,7 +77,7 @@ no-place-turned false n = refl
 module _ (bam places : List ℕ) (room : ℕ) (r : Finished) (ls : List Listing) (e : dropRecord bam places room ≡ done r)
     (kept : keeps MM bam (r .bytes) ≡ true) (old : ListsOver (readSeq bam) bam ls) where
   abbrev ps : List ℕ
-  ps = placesInRead (isReverse bam) (seqLength bam) places
+  ps = readPlaces bam places
 
   some-dropped : isEmpty places ≡ false → ListsOver (readSeq (r .bytes)) (r .bytes) (map (withoutCallsAt ps) ls)
   unfolding dropEdit
@@ -89,8 +89,8 @@ module _ (bam places : List ℕ) (room : ℕ) (r : Finished) (ls : List Listing)
       record {
         tagged = holds .tagged;
         listed =
-          then-listed made t holds
-          ∙ drop-keeps-the-others (hasML bam) (readSeq bam) (textOf (mmOf bam)) (valuesOf (mlOf bam)) ls (old .listed) (valuesOf (mlOf (r .bytes))) ps t edits;
+            then-listed made t holds
+            ∙ drop-keeps-the-others (hasML bam) (readSeq bam) (textOf (mmOf bam)) (valuesOf (mlOf bam)) ls (old .listed) (valuesOf (mlOf (r .bytes))) ps t edits;
       }
 
   no-dropped : places ≡ [] → ListsOver (readSeq (r .bytes)) (r .bytes) (map (withoutCallsAt ps) ls)
@@ -102,7 +102,7 @@ module _ (bam places : List ℕ) (room : ℕ) (r : Finished) (ls : List Listing)
       subst (ListsOver (readSeq (r .bytes)) (r .bytes)) (sym same) (subst (λ (b : List ℕ). ListsOver (readSeq b) b ls) (sym came) old)
 
   -- After a drop the tag lists what it listed, without the calls at the places.
-  pub drop-lists : ListsOver (readSeq (r .bytes)) (r .bytes) (map (withoutCallsAt (placesInRead (isReverse bam) (seqLength bam) places)) ls)
+  pub drop-lists : ListsOver (readSeq (r .bytes)) (r .bytes) (map (withoutCallsAt (readPlaces bam places)) ls)
   drop-lists = by-test (isEmpty places) (λ p. no-dropped (no-place places p)) some-dropped
 
 -- ---- a mask
@@ -133,9 +133,9 @@ module _ (bam before : List ℕ) (room : ℕ) (r : Finished) (ls : List Listing)
       record {
         tagged = holds .tagged;
         listed =
-          then-listed made t holds
-          ∙ ap (thenLists (hasML bam) (readSeq bam) (valuesOf (mlOf (r .bytes)))) (sym masks)
-          ∙ mask-keeps-the-others (hasML bam) old-seq (readSeq bam) (textOf (mmOf bam)) (valuesOf (mlOf bam)) ls (valuesOf (mlOf (r .bytes))) (old .listed) by-n;
+            then-listed made t holds
+            ∙ ap (thenLists (hasML bam) (readSeq bam) (valuesOf (mlOf (r .bytes)))) (sym masks)
+            ∙ mask-keeps-the-others (hasML bam) old-seq (readSeq bam) (textOf (mmOf bam)) (valuesOf (mlOf bam)) ls (valuesOf (mlOf (r .bytes))) (old .listed) by-n;
       }
 
 -- ---- a cut
@@ -208,7 +208,7 @@ module _ (bam before : List ℕ) (before-reverse : Bool) (start : Option ℕ) (r
   old-bases = turnedLetters before-reverse before
 
   abbrev starts : Option ℕ
-  starts = windowStart (startOf (isReverse bam) before-reverse (length before) (seqLength bam) start) old-bases (readSeq bam)
+  starts = beginsAt bam before before-reverse start
 
   -- the window, the edit, and the tag that the new record holds
   cut-held : (lo : ℕ) × (t : Tag) × (starts ≡ some lo) × (liesIn (readSeq bam) (drop lo old-bases) ≡ true)
@@ -226,17 +226,20 @@ module _ (bam before : List ℕ) (before-reverse : Bool) (start : Option ℕ) (r
 
   -- After a cut SEQ begins at a known place of SEQ before. The tag lists what it listed there, without the calls whose base is no longer in SEQ, and every
   -- other call is as many places nearer to the front as were cut off before it.
-  pub cut-lists : (lo : ℕ) × (windowStart (startOf (isReverse bam) before-reverse (length before) (seqLength bam) start) (turnedLetters before-reverse before) (readSeq bam) ≡ some lo)
+  pub cut-lists : (lo : ℕ) × (beginsAt bam before before-reverse start ≡ some lo)
       × ListsOver (readSeq (r .bytes)) (r .bytes) (map (callsHeldIn lo (readSeq bam)) ls)
   cut-lists =
       let (lo, t, at, lies, edits, holds) = cut-held in
-      let made = cut-made bam before before-reverse start room r e in
-      (lo, at, record {
-        tagged = holds .tagged;
-        listed =
-          then-listed made t holds
-          ∙ cut-keeps-the-held (hasML bam) old-bases (textOf (mmOf bam)) (valuesOf (mlOf bam)) ls (old .listed) (valuesOf (mlOf (r .bytes))) lo (readSeq bam) t lies edits;
-      })
+      let made = cut-made bam before before-reverse start room r e in (
+        lo,
+        at,
+        record {
+          tagged = holds .tagged;
+          listed =
+              then-listed made t holds
+              ∙ cut-keeps-the-held (hasML bam) old-bases (textOf (mmOf bam)) (valuesOf (mlOf bam)) ls (old .listed) (valuesOf (mlOf (r .bytes))) lo (readSeq bam) t lies edits;
+        },
+      )
 
   -- If SEQ is the k bases from place a of SEQ before, unmasked and fewer than before, and the start is known to be there, the tag lists every call inside.
   pub clean-cut-lists : (a k : ℕ) → startOf (isReverse bam) before-reverse (length before) (seqLength bam) start ≡ some a
@@ -253,9 +256,9 @@ module _ (bam before : List ℕ) (before-reverse : Bool) (start : Option ℕ) (r
       record {
         tagged = holds .tagged;
         listed =
-          then-listed made t holds
-          ∙ ap (λ (l : List ℕ). lists (hasML bam) l (t .text) (cond (hasML bam) (t .ml) (valuesOf (mlOf (r .bytes))))) w
-          ∙ cut-keeps-the-others (hasML bam) old-bases (textOf (mmOf bam)) (valuesOf (mlOf bam)) ls (old .listed) (valuesOf (mlOf (r .bytes))) a k t fits cut;
+            then-listed made t holds
+            ∙ ap (λ (l : List ℕ). lists (hasML bam) l (t .text) (cond (hasML bam) (t .ml) (valuesOf (mlOf (r .bytes))))) w
+            ∙ cut-keeps-the-others (hasML bam) old-bases (textOf (mmOf bam)) (valuesOf (mlOf bam)) ls (old .listed) (valuesOf (mlOf (r .bytes))) a k t fits cut;
       }
 
 -- ---- am and bm, which are edited without ML
@@ -279,7 +282,7 @@ module _ (k : ℕ) (alone : isAlone k ≡ true) (bam : List ℕ) (room : ℕ) (r
 
   module _ (places : List ℕ) (e : dropRecord bam places room ≡ done r) (old : AloneListsOver (readSeq bam) k bam ls) where
     abbrev gone : List ℕ
-    gone = placesInRead (isReverse bam) (seqLength bam) places
+    gone = readPlaces bam places
 
     alone-some-dropped : isEmpty places ≡ false → AloneListsOver (readSeq (r .bytes)) k (r .bytes) (map (withoutCallsAt gone) ls)
     unfolding dropEdit
@@ -302,7 +305,7 @@ module _ (k : ℕ) (alone : isAlone k ≡ true) (bam : List ℕ) (room : ℕ) (r
         subst (AloneListsOver (readSeq (r .bytes)) k (r .bytes)) (sym same) (subst (λ (b : List ℕ). AloneListsOver (readSeq b) k b ls) (sym came) old)
 
     -- After a drop am and bm list what they listed, without the calls at the places.
-    pub drop-alone-lists : AloneListsOver (readSeq (r .bytes)) k (r .bytes) (map (withoutCallsAt (placesInRead (isReverse bam) (seqLength bam) places)) ls)
+    pub drop-alone-lists : AloneListsOver (readSeq (r .bytes)) k (r .bytes) (map (withoutCallsAt (readPlaces bam places)) ls)
     drop-alone-lists = by-test (isEmpty places) (λ p. alone-no-dropped (no-place places p)) alone-some-dropped
 
   -- After a mask that changed SEQ only by N, am and bm list what they listed over SEQ before, without the calls whose base is masked.
@@ -320,16 +323,16 @@ module _ (k : ℕ) (alone : isAlone k ≡ true) (bam : List ℕ) (room : ℕ) (r
       record {
         is-text = is-text;
         listed =
-          alone-listed made t text
-          ∙ ap (thenLists false (readSeq bam) []) (sym masks)
-          ∙ mask-keeps-the-others false then (readSeq bam) text-then [] ls [] (old .listed) by-n;
+            alone-listed made t text
+            ∙ ap (thenLists false (readSeq bam) []) (sym masks)
+            ∙ mask-keeps-the-others false then (readSeq bam) text-then [] ls [] (old .listed) by-n;
       }
 
   -- After a cut am and bm list what they listed over SEQ before, without the calls whose base is no longer in SEQ, each nearer to the front by what was cut
   -- off before it.
   pub cut-alone-lists : (before : List ℕ) (before-reverse : Bool) (start : Option ℕ) → cutRecord bam before before-reverse start room ≡ done r
       → AloneListsOver (turnedLetters before-reverse before) k bam ls → sameBytes (turnedLetters before-reverse before) (readSeq bam) ≡ false
-      → (lo : ℕ) × (windowStart (startOf (isReverse bam) before-reverse (length before) (seqLength bam) start) (turnedLetters before-reverse before) (readSeq bam) ≡ some lo)
+      → (lo : ℕ) × (beginsAt bam before before-reverse start ≡ some lo)
       × AloneListsOver (readSeq (r .bytes)) k (r .bytes) (map (callsHeldIn lo (readSeq bam)) ls)
   unfolding cutEdit
   cut-alone-lists before before-reverse start e old differs =
@@ -338,10 +341,13 @@ module _ (k : ℕ) (alone : isAlone k ≡ true) (bam : List ℕ) (room : ℕ) (r
       let made = cut-made bam before before-reverse start room r e in
       let (lo, q, is) = cut-is (isReverse bam) n (packedSeq bam) before before-reverse start (fieldsIn bam) differs (alone-tagged (fieldsIn bam) k alone (old .is-text))
       (not-removed made k (old .is-text) kept (alone-low k alone)) in
-      let (at, lies) = window-found (windowStart (startOf (isReverse bam) before-reverse (length before) n start) then (readSeq bam)) then (readSeq bam) lo q in
+      let (at, lies) = window-found (beginsAt bam before before-reverse start) then (readSeq bam) lo q in
       let (t, edits, is-text, text) = alone-held made k (old .is-text) kept (cutEdit lo then (readSeq bam)) (cut-tidy lo then (readSeq bam)) 3 (cond (eqb (length before) n) none (some n))
-      (λ b. lengths-some (eqb (length before) n) b n) is alone in
-      (lo, at, record {
-        is-text = is-text;
-        listed = alone-listed made t text ∙ cut-keeps-the-held false then text-then [] ls (old .listed) [] lo (readSeq bam) t lies edits;
-      })
+      (λ b. lengths-some (eqb (length before) n) b n) is alone in (
+        lo,
+        at,
+        record {
+          is-text = is-text;
+          listed = alone-listed made t text ∙ cut-keeps-the-held false then text-then [] ls (old .listed) [] lo (readSeq bam) t lies edits;
+        },
+      )

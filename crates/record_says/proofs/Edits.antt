@@ -167,13 +167,13 @@ module _ (edit : TagEdit) (tidy : Tidy edit) where
     editing-sound n len lengths = record {
       lengths = lengths (isText mm && refuses o);
       first =
-        by-name (λ (k : ℕ). (k ≡ MN → ⊥) → isEmpty (firstNamed k fs) ≡ false → Piece (firstNamed k fs) (applied (editing edit len fs k) (firstNamed k fs)))
-        (λ z e. mm-piece e) (λ z e. ml-piece e) (λ z e. absurd (z refl))
-        (λ z e. let is = first-is am fs are e in alone-piece (firstNamed am fs) (is .0) (omega (arith, is .1)))
-        (λ z e. let is = first-is bm fs are e in alone-piece (firstNamed bm fs) (is .0) (omega (arith, is .1)))
-        (λ k h z e. rw (unasked k h) stays);
+          by-name (λ (k : ℕ). (k ≡ MN → ⊥) → isEmpty (firstNamed k fs) ≡ false → Piece (firstNamed k fs) (applied (editing edit len fs k) (firstNamed k fs)))
+          (λ z e. mm-piece e) (λ z e. ml-piece e) (λ z e. absurd (z refl))
+          (λ z e. let is = first-is am fs are e in alone-piece (firstNamed am fs) (is .0) (omega (arith, is .1)))
+          (λ z e. let is = first-is bm fs are e in alone-piece (firstNamed bm fs) (is .0) (omega (arith, is .1)))
+          (λ k h z e. rw (unasked k h) stays);
       later = by-name (λ (k : ℕ). (k ≡ MN → ⊥) → rest (editing edit len fs k) ≡ []) (λ z. refl) (λ z. refl) (λ z. absurd (z refl)) (λ z. refl) (λ z. refl)
-        (λ k h z. rw (unasked k h));
+          (λ k h z. rw (unasked k h));
     }
       where
         unasked : (k : ℕ) → 5 ≤ k → editing edit len fs k ≡ []
@@ -196,10 +196,10 @@ unfolding removal
 removal-sound n fs are = record {
   lengths = gone;
   first = λ k z e.
-    let is = first-is k fs are e in
-    by-test (ltb k 5)
-    (λ q. rw q (goes (omega (arith, is .1, ltb-true k 5 q))))
-    (λ q. rw q stays);
+      let is = first-is k fs are e in
+      by-test (ltb k 5)
+      (λ q. rw q (goes (omega (arith, is .1, ltb-true k 5 q))))
+      (λ q. rw q stays);
   later = λ k z. by-test (ltb k 5) (λ q. rw q) (λ q. rw q);
 }
 

@@ -216,14 +216,14 @@ module _ {n : ℕ} {bam : List ℕ} {new : List Field} {r : Finished} (made : Ma
       holds : Holds bam (r .bytes) t
       holds = record {
         tagged =
-          and-true (isText (mmOf (r .bytes))) (isEmpty (mlOf (r .bytes)) || isByteArray (mlOf (r .bytes)))
-          (ap isText mm-new ∙ text-type (mmOf bam) mm-long (t .text) mm-text)
-          (by-test (isEmpty (mlOf bam)) (λ q. rw (ml-none q)) (λ q. rw (ml-new-array q) (or-true (isEmpty (mlOf (r .bytes))))));
+            and-true (isText (mmOf (r .bytes))) (isEmpty (mlOf (r .bytes)) || isByteArray (mlOf (r .bytes)))
+            (ap isText mm-new ∙ text-type (mmOf bam) mm-long (t .text) mm-text)
+            (by-test (isEmpty (mlOf bam)) (λ q. rw (ml-none q)) (λ q. rw (ml-new-array q) (or-true (isEmpty (mlOf (r .bytes))))));
         text = ap textOf mm-new ∙ text-held (mmOf bam) mm-long (t .text);
         ml-there =
-          by-test (isEmpty (mlOf bam))
-          (λ q. rw (q, ml-none q))
-          (λ q. rw (q, array-there (mlOf (r .bytes)) (ml-new-array q)));
+            by-test (isEmpty (mlOf bam))
+            (λ q. rw (q, ml-none q))
+            (λ q. rw (q, array-there (mlOf (r .bytes)) (ml-new-array q)));
         ml = λ h. let q = not-true (isEmpty (mlOf bam)) h in ap valuesOf (ml-new q) ∙ values-held (mlOf bam) (ml-long q) (t .ml);
       }
 

@@ -21,14 +21,13 @@ use Rattle.record_fields.proofs.Kept.{name-kept}
 use Rattle.record_fields.specs.Bam.{isReverse, packedSeq, seqLength}
 use Rattle.record_fields.specs.Fields.{Field, MM, MN, firstNamed}
 use Rattle.record_rows.specs.Letters.{turnedLetters}
-
 use Rattle.record_says.proofs.Edited.{drop-is, no-place, no-place-turned}
 use Rattle.record_says.proofs.Edits.{Tidy, cut-tidy, drop-tidy, editing-sound, first-is, lengths-none, lengths-some, mask-tidy}
 use Rattle.record_says.proofs.Firsts.{first-counted}
 use Rattle.record_says.proofs.Held.{empty-is, held, not-removed, text-there}
 use Rattle.record_says.proofs.Made.{Made, cut-made, drop-made, fields-are, mask-made, old-fields}
 use Rattle.record_says.proofs.Pieces.{Lengths, field-long}
-use Rattle.record_says.specs.Says.{ListsOver, fieldsIn, hasML, hasTag, keeps, mlOf, mmOf, readSeq, storedSeq, times}
+use Rattle.record_says.specs.Says.{ListsOver, beginsAt, fieldsIn, hasML, hasTag, keeps, mlOf, mmOf, mnOf, readPlaces, readSeq, storedSeq, times}
 use Rattle.record_tags.specs.Changes.{TagEdit, changed, editing, isTagged, lengthSets, withML}
 use Rattle.record_tags.specs.Changes as changes
 use Rattle.record_tags.specs.Records.{Finished, cutEdit, cutFields, cutRecord, dropEdit, dropFields, dropRecord, maskEdit, maskFields, maskRecord, startOf, windowIn}
@@ -110,7 +109,7 @@ module _ (reverse : Bool) (n : ℕ) (packed before : List ℕ) (fs : List Field)
 
 -- A mask by N keeps MM, if the reader accepts the tag over SEQ before and MN agrees with SEQ.
 pub mask-keeps : (bam before : List ℕ) (room : ℕ) (r : Finished) (ls : List Listing) → maskRecord bam before room ≡ done r
-    → ListsOver (turnedLetters (isReverse bam) before) bam ls → disagrees (seqLength bam) (firstNamed MN (fieldsIn bam)) ≡ false
+    → ListsOver (turnedLetters (isReverse bam) before) bam ls → disagrees (seqLength bam) (mnOf bam) ≡ false
     → differsByN (turnedLetters (isReverse bam) before) (readSeq bam) ≡ true → keeps MM bam (r .bytes) ≡ true
 unfolding maskEdit
 mask-keeps bam before room r ls e old agrees by-n =
@@ -166,8 +165,8 @@ module _ (reverse : Bool) (n : ℕ) (packed before : List ℕ) (before-reverse :
 -- A cut to a known window keeps MM, if the reader accepts the tag over SEQ before and MN agrees with SEQ before.
 pub cut-keeps : (bam before : List ℕ) (before-reverse : Bool) (start : Option ℕ) (room : ℕ) (r : Finished) (ls : List Listing) (lo : ℕ)
     → cutRecord bam before before-reverse start room ≡ done r → ListsOver (turnedLetters before-reverse before) bam ls
-    → disagrees (length before) (firstNamed MN (fieldsIn bam)) ≡ false
-    → windowIn (windowStart (startOf (isReverse bam) before-reverse (length before) (seqLength bam) start) (turnedLetters before-reverse before) (readSeq bam))
+    → disagrees (length before) (mnOf bam) ≡ false
+    → windowIn (beginsAt bam before before-reverse start)
     (turnedLetters before-reverse before) (readSeq bam) ≡ some lo
     → keeps MM bam (r .bytes) ≡ true
 unfolding cutEdit
@@ -248,7 +247,7 @@ drop-free ps ml? seq text ml ls t e d =
 
 module _ (bam places : List ℕ) (room : ℕ) (r : Finished) (ls : List Listing) (e : dropRecord bam places room ≡ done r) (old : ListsOver (readSeq bam) bam ls) where
   abbrev ps : List ℕ
-  ps = placesInRead (isReverse bam) (seqLength bam) places
+  ps = readPlaces bam places
 
   kept-is-free : keeps MM bam (r .bytes) ≡ true → any (listsUnmarked ps) ls ≡ false
   unfolding dropEdit
@@ -265,7 +264,7 @@ module _ (bam places : List ℕ) (room : ℕ) (r : Finished) (ls : List Listing)
       let (t, drops, holds) = held made tag kept (dropEdit (readSeq bam) ps) (drop-tidy (readSeq bam) ps) 0 none (lengths-none 0) is in
       drop-free ps (hasML bam) (readSeq bam) (textOf (mmOf bam)) (valuesOf (mlOf bam)) ls t (old .listed) drops)
 
-  free-is-kept : disagrees (seqLength bam) (firstNamed MN (fieldsIn bam)) ≡ false → any (listsUnmarked ps) ls ≡ false → keeps MM bam (r .bytes) ≡ true
+  free-is-kept : disagrees (seqLength bam) (mnOf bam) ≡ false → any (listsUnmarked ps) ls ≡ false → keeps MM bam (r .bytes) ≡ true
   unfolding dropEdit
   free-is-kept agrees free =
       let tag = old .tagged in
@@ -278,8 +277,8 @@ module _ (bam places : List ℕ) (room : ℕ) (r : Finished) (ls : List Listing)
       (drop-edits (isReverse bam) (seqLength bam) (packedSeq bam) places fs z agrees) t drops)
 
   -- If the reader accepts the tag over SEQ and MN agrees with SEQ, a drop keeps MM exactly where it takes no call under a header without '?'.
-  pub drop-keeps : disagrees (seqLength bam) (firstNamed MN (fieldsIn bam)) ≡ false
-      → keeps MM bam (r .bytes) ≡ not (any (listsUnmarked (placesInRead (isReverse bam) (seqLength bam) places)) ls)
+  pub drop-keeps : disagrees (seqLength bam) (mnOf bam) ≡ false
+      → keeps MM bam (r .bytes) ≡ not (any (listsUnmarked (readPlaces bam places)) ls)
   drop-keeps agrees =
       test-ext (keeps MM bam (r .bytes)) (not (any (listsUnmarked ps) ls)) (λ k. ap not (kept-is-free k))
       (λ f. free-is-kept agrees (not-true (any (listsUnmarked ps) ls) f))

@@ -83,7 +83,7 @@ module _ (n : ℕ) (bam : List ℕ) (k : ℕ) (new : List Field → List Field)
     where
       parsed : isWhole bam ≡ true → (o : Outcome (List Field)) → fields (tail bam) ≡ o
           → refusesOnly (14 ∷ 15 ∷ 1 ∷ []) (andThen o (λ fs. need (inDomain (seqLength bam) k fs) 1 (inRoom room (finished bam fs (new fs))))) ≡ true
-      parsed w (refused q) p = 
+      parsed w (refused q) p =
           let is : refused q ≡ refuse 15 = sym p ∙ only-15 (tail bam) (ap isDone p) in
           ap (λ (o : Outcome (List Field)). refusesOnly (14 ∷ 15 ∷ 1 ∷ []) o) is
       parsed w (done fs) p = by-test (inDomain (seqLength bam) k fs) (λ d. rw (d, enough room fs h w p d)) (λ d. rw d)

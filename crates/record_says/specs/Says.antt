@@ -10,11 +10,13 @@ use lib.ListN.{length, take, drop}
 use Rattle.lent.specs.Lists.{every, filter, isEmpty}
 use Rattle.lent.specs.Outcome.{Outcome, andThen, done}
 use Rattle.packed.specs.Packed.{unpack}
-use Rattle.packed.specs.Stored.{inRead}
+use Rattle.packed.specs.Stored.{inRead, placesInRead}
 use Rattle.record_fields.specs.Bam.{headSize, isReverse, isWhole, packedSeq, seqLength}
-use Rattle.record_fields.specs.Fields.{Field, ML, MM, am, anyOther, bm, fields, fieldsOf, firstNamed, nameOf}
-use Rattle.record_tags.specs.Records.{Finished, cutFields, cutRecord, dropFields, dropRecord, inRoom, maskFields, maskRecord}
+use Rattle.record_fields.specs.Fields.{Field, ML, MM, MN, am, anyOther, bm, fields, fieldsOf, firstNamed, nameOf}
+use Rattle.record_rows.specs.Letters.{turnedLetters}
+use Rattle.record_tags.specs.Records.{Finished, cutFields, cutRecord, dropFields, dropRecord, inRoom, maskFields, maskRecord, startOf}
 use Rattle.record_tags.specs.Values.{isByteArray, isText, textOf, valuesOf}
+use Rattle.samtags.specs.Edits.{windowStart}
 use Rattle.samtags.specs.Reading.{lists}
 use Rattle.samtags.specs.Spots.{Listing}
 
@@ -32,6 +34,15 @@ storedSeq bam = unpack (seqLength bam) (packedSeq bam)
 
 abbrev pub readSeq : List ℕ → List ℕ
 readSeq bam = inRead (isReverse bam) (seqLength bam) (packedSeq bam)
+
+-- the places of a drop, in read orientation
+abbrev pub readPlaces : List ℕ → List ℕ → List ℕ
+readPlaces bam places = placesInRead (isReverse bam) (seqLength bam) places
+
+-- where SEQ begins in SEQ before a cut, in read orientation, if this is known
+abbrev pub beginsAt : List ℕ → List ℕ → Bool → Option ℕ → Option ℕ
+beginsAt bam before before-reverse start =
+    windowStart (startOf (isReverse bam) before-reverse (length before) (seqLength bam) start) (turnedLetters before-reverse before) (readSeq bam)
 
 -- the name is none of MM, ML, MN, am and bm
 abbrev pub isOther : Field → Bool
@@ -89,6 +100,9 @@ mmOf bam = firstNamed MM (fieldsIn bam)
 
 abbrev pub mlOf : List ℕ → Field
 mlOf bam = firstNamed ML (fieldsIn bam)
+
+abbrev pub mnOf : List ℕ → Field
+mnOf bam = firstNamed MN (fieldsIn bam)
 
 abbrev pub hasML : List ℕ → Bool
 hasML bam = not (isEmpty (mlOf bam))
