@@ -169,7 +169,7 @@ module _ (reverse : Bool) (n : ℕ) (packed before : List ℕ) (before-reverse :
   abbrev begins : Option ℕ
   begins = windowIn (windowStart (startOf reverse before-reverse (length before) n start) was now) was now
 
-  some-bases : sameBytes was now ≡ false → isEmpty before && eqb n 0 ≡ false
+  pub some-bases : sameBytes was now ≡ false → isEmpty before && eqb n 0 ≡ false
   some-bases s = by-test (isEmpty before && eqb n 0) (λ q. absurd (none-there q)) (λ q. q)
     where
       none-there : isEmpty before && eqb n 0 ≡ true → ⊥
@@ -189,7 +189,7 @@ module _ (reverse : Bool) (n : ℕ) (packed before : List ℕ) (before-reverse :
     found none h = absurd (h refl)
     found (some lo) h = (lo, refl, refl)
 
-    cut-is : sameBytes was now ≡ false → isTagged fs ≡ true → (cutFields reverse n packed before before-reverse start fs ≡ changed removal fs → ⊥)
+    pub cut-is : sameBytes was now ≡ false → isTagged fs ≡ true → (cutFields reverse n packed before before-reverse start fs ≡ changed removal fs → ⊥)
         → (lo : ℕ) × (begins ≡ some lo) × (cutFields reverse n packed before before-reverse start fs ≡ cuts lo)
     unfolding cutFields
     cut-is s t h =

@@ -52,17 +52,17 @@ same-kept {n} {bam} {new} {r} k m e = eq-eqb (times k (fieldsIn (r .bytes))) (ti
 -- ---- an edit that is done
 
 module _ {n : ℕ} {bam : List ℕ} {new : List Field} {r : Finished} (made : Made n bam new r) (tag : hasTag bam ≡ true) where
-  mm-is-text : isText (mmOf bam) ≡ true
+  pub mm-is-text : isText (mmOf bam) ≡ true
   mm-is-text = and-true-l (isText (mmOf bam)) (isEmpty (mlOf bam) || isByteArray (mlOf bam)) tag
 
   mm-is-there : isEmpty (mmOf bam) ≡ false
   mm-is-there = text-there (mmOf bam) mm-is-text
 
-  tagged : isTagged (fieldsIn bam) ≡ true
+  pub tagged : isTagged (fieldsIn bam) ≡ true
   unfolding isTagged
   tagged = rw mm-is-there
 
-  with-is : (edit : TagEdit) (t : Tag) → edit (hasML bam) (textOf (mmOf bam)) (valuesOf (mlOf bam)) ≡ done t → withML edit (mmOf bam) (mlOf bam) ≡ done t
+  pub with-is : (edit : TagEdit) (t : Tag) → edit (hasML bam) (textOf (mmOf bam)) (valuesOf (mlOf bam)) ≡ done t → withML edit (mmOf bam) (mlOf bam) ≡ done t
   unfolding withML
   with-is edit t e =
       by-test (isEmpty (mlOf bam))

@@ -11,4 +11,5 @@ pub mod Firsts
 pub mod Held
 pub mod Edited
 pub mod KeepsMM
+pub mod LengthAgrees
 pub mod Examples

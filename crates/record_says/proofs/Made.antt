@@ -63,6 +63,7 @@ module _ (old new : List ℕ) (same : take (headSize old) new ≡ take (headSize
 pub record Made (n : ℕ) (bam : List ℕ) (new : List Field) (r : Finished) : Type 0 where
   pub whole : isWhole bam ≡ true
   pub parsed : fields (tail bam) ≡ done (fieldsIn bam)
+  pub short : seqLength bam ≤ 16000
   pub fits : arrayFits (firstNamed ML (fieldsIn bam)) ≡ true
   pub each : Each n (fieldsIn bam) new
   pub is : r ≡ finished bam (fieldsIn bam) new
@@ -79,6 +80,17 @@ array-fits n k fs h =
     let text = textFits (firstNamed am fs) in
     and-true-r lengths array (and-true-l (lengths && array) text (and-true-l (lengths && array && text) (textFits (firstNamed bm fs)) h))
 
+pub seq-short : (n k : ℕ) (fs : List Field) → inDomain n k fs ≡ true → n ≤ 16000
+unfolding inDomain
+seq-short n k fs h =
+    let a = leb n 16000 in
+    let b = leb k 16000 in
+    let c = textFits (firstNamed MM fs) in
+    let d = arrayFits (firstNamed ML fs) in
+    let e = textFits (firstNamed am fs) in
+    leb-true n 16000 (and-true-l a b (and-true-l (a && b) c (and-true-l (a && b && c) d (and-true-l (a && b && c && d) e
+    (and-true-l (a && b && c && d && e) (textFits (firstNamed bm fs)) h)))))
+
 made : (n : ℕ) (bam : List ℕ) (k room : ℕ) (new : List Field → List Field)
     → ((fs : List Field) → every isField fs ≡ true → arrayFits (firstNamed ML fs) ≡ true → Each n fs (new fs)) → (r : Finished) → remade bam k room new ≡ done r
     → Made n bam (new (fieldsIn bam)) r
@@ -94,6 +106,7 @@ made n bam k room new each r e =
     record {
       whole = whole;
       parsed = parsed ∙ ap done same;
+      short = seq-short (seqLength bam) k fs domain;
       fits = subst (λ (l : List Field). arrayFits (firstNamed ML l) ≡ true) same fits;
       each = subst (λ (l : List Field). Each n l (new l)) same (each fs (fields-each (tail bam) fs parsed) fits);
       is = sym is ∙ ap (λ (l : List Field). finished bam l (new l)) same;

@@ -20,7 +20,7 @@ use Rattle.record_fields.proofs.Inverse.{fields-each}
 use Rattle.record_fields.specs.Bam.{isReverse, isWhole, packedSeq, seqLength}
 use Rattle.record_fields.specs.Fields.{Field, ML, fields, firstNamed, isField}
 use Rattle.record_says.proofs.Edits.{cut-each, drop-each, mask-each}
-use Rattle.record_says.proofs.Made.{Made, array-fits, cut-made, drop-made, mask-made, new-fits, parsed-are}
+use Rattle.record_says.proofs.Made.{Made, array-fits, cut-made, drop-made, mask-made, new-fits, parsed-are, seq-short}
 use Rattle.record_says.proofs.Pieces.{Each}
 use Rattle.record_says.specs.Says.{fieldsIn, tail, withRoom}
 use Rattle.record_tags.specs.Records.{Finished, arrayFits, cutFields, cutRecord, dropFields, dropRecord, finished, inDomain, inRoom, maskFields, maskRecord, remade}
@@ -51,6 +51,7 @@ module _ (n : ℕ) (bam : List ℕ) (k : ℕ) (new : List Field → List Field)
       let made : Made n bam (new (fieldsIn bam)) (finished bam (fieldsIn bam) (new (fieldsIn bam))) = record {
         whole = whole;
         parsed = parsed ∙ ap done same;
+        short = seq-short (seqLength bam) k fs domain;
         fits = subst (λ (l : List Field). arrayFits (firstNamed ML l) ≡ true) same (array-fits (seqLength bam) k fs domain);
         each = subst (λ (l : List Field). Each n l (new l)) same (each fs (fields-each (tail bam) fs parsed) (array-fits (seqLength bam) k fs domain));
         is = refl;
