@@ -1,19 +1,29 @@
 -- Small records by their bytes, through the three calls.
 -- Assumes nothing.
-use mathlib.Core.Path.{_≡_, refl}
+use mathlib.Core.Path.{refl, sym, _≡_}
 use Prim.Native.Nat.{ℕ, _+_}
 use mathlib.Core.Bool.{true, false}
-use mathlib.Core.List.{List, [], _∷_, _++_}
+use mathlib.Core.List.{List, [], map, _++_, _∷_}
 use mathlib.Core.Option.{none, some}
 use lib.ListN.{length, replicate}
+use Rattle.lent.specs.Lists.{any}
 use Rattle.lent.specs.Outcome.{done, refuse}
-use Rattle.packed.specs.Packed.{pack}
+use Rattle.packed.specs.Packed.{pack, unpack}
 use Rattle.packed.specs.Stored.{inRead}
+use Rattle.record_fields.specs.Bam.{isReverse, seqLength}
 use Rattle.record_fields.specs.Fields.{Field, MM, fieldsOf, firstNamed, joined, nameOf}
-use Rattle.record_says.proofs.Edited.{drop-lists}
-use Rattle.record_says.specs.Says.{ListsOver, keeps, readSeq}
-use Rattle.record_tags.specs.Records.{cutRecord, dropRecord, finishedWith, maskRecord}
+use Rattle.record_rows.specs.Letters.{turnedLetters}
+use Rattle.record_says.proofs.Edited.{cut-lists, drop-lists, mask-lists}
+use Rattle.record_says.proofs.KeepsMM.{mask-keeps, cut-keeps}
+use Rattle.record_says.proofs.LengthAgrees.{cut-length}
+use Rattle.record_says.proofs.Went.{went-is-gone}
+use Rattle.record_says.specs.Says.{ListsOver, beginsAt, dropped, fieldsIn, fiveNames, isGone, keeps, mnOf, noneTwice, readSeq, storedSeq}
+use Rattle.record_tags.specs.Records.{cutRecord, dropRecord, finishedWith, maskRecord, windowIn}
+use Rattle.record_tags.specs.Values.{disagrees}
+use Rattle.samtags.proofs.Kept.{callsHeldIn}
+use Rattle.samtags.proofs.Masking.{differsByN, unmaskedCalls}
 use Rattle.samtags.specs.Bytes.{ascii}
+use Rattle.samtags.specs.Edits.{sameBytes}
 use Rattle.samtags.specs.Reading.{lists}
 use Rattle.samtags.specs.Spots.{Call, Listing}
 
@@ -192,3 +202,67 @@ drop-listed = record { tagged = refl; listed = refl }
 
 drop-promise : ListsOver (readSeq droppedTo) droppedTo (oneCall (ascii "C+m?"))
 drop-promise = drop-lists droppedFrom (2 ∷ []) 200 (finishedWith false droppedTo) (twoCalls (ascii "C+m?")) (drop-met .0) (drop-met .1) drop-listed
+
+abbrev maskedFrom : List ℕ
+maskedFrom = bamOf 0 (ascii "ACNA") (text (ascii "MM") (ascii "C+m,0,0;") ∷ bytes (ascii "ML") (7 ∷ 8 ∷ []) ∷ byte (ascii "MN") 4 ∷ [])
+
+abbrev maskedInto : List ℕ
+maskedInto = bamOf 0 (ascii "ACNA") (text (ascii "MM") (ascii "C+m,0;") ∷ bytes (ascii "ML") (7 ∷ []) ∷ byte (ascii "MN") 4 ∷ [])
+
+mask-met :
+    (maskRecord maskedFrom (ascii "ACCA") 200 ≡ done (finishedWith false maskedInto))
+    × (disagrees (seqLength maskedFrom) (mnOf maskedFrom) ≡ false)
+    × (sameBytes (ascii "ACCA") (storedSeq maskedFrom) ≡ false)
+    × (differsByN (turnedLetters (isReverse maskedFrom) (ascii "ACCA")) (readSeq maskedFrom) ≡ true)
+unfolding maskRecord fieldsOf firstNamed inRead pack turnedLetters unpack
+mask-met = (refl, refl, refl, refl)
+
+mask-listed : ListsOver (turnedLetters (isReverse maskedFrom) (ascii "ACCA")) maskedFrom (twoCalls (ascii "C+m"))
+unfolding fieldsOf firstNamed lists pack turnedLetters
+mask-listed = record { tagged = refl; listed = refl }
+
+mask-kept : keeps MM maskedFrom maskedInto ≡ true
+mask-kept = mask-keeps maskedFrom (ascii "ACCA") 200 (finishedWith false maskedInto) (twoCalls (ascii "C+m")) (mask-met .0) mask-listed (mask-met .1) (mask-met .3)
+
+mask-promise : ListsOver (readSeq maskedInto) maskedInto (map (unmaskedCalls (readSeq maskedFrom)) (twoCalls (ascii "C+m")))
+mask-promise =
+    mask-lists maskedFrom (ascii "ACCA") 200 (finishedWith false maskedInto) (twoCalls (ascii "C+m")) (mask-met .0) mask-kept mask-listed (mask-met .2) (mask-met .3)
+
+-- a reverse read that lost its first stored base: the last base in read orientation
+abbrev cutFrom : List ℕ
+cutFrom = bamOf 16 (ascii "GGT") (text (ascii "MM") (ascii "C+m,0,0;") ∷ bytes (ascii "ML") (7 ∷ 8 ∷ []) ∷ byte (ascii "MN") 4 ∷ [])
+
+abbrev cutInto : List ℕ
+cutInto = bamOf 16 (ascii "GGT") (text (ascii "MM") (ascii "C+m,0,0;") ∷ bytes (ascii "ML") (7 ∷ 8 ∷ []) ∷ (ascii "MNi" ++ 3 ∷ 0 ∷ 0 ∷ 0 ∷ []) ∷ [])
+
+cut-met :
+    (cutRecord cutFrom (ascii "TGGT") true (some 1) 200 ≡ done (finishedWith false cutInto))
+    × (disagrees 4 (mnOf cutFrom) ≡ false)
+    × (sameBytes (turnedLetters true (ascii "TGGT")) (readSeq cutFrom) ≡ false)
+    × (windowIn (beginsAt cutFrom (ascii "TGGT") true (some 1)) (turnedLetters true (ascii "TGGT")) (readSeq cutFrom) ≡ some 0)
+unfolding cutRecord fieldsOf firstNamed inRead pack turnedLetters
+cut-met = (refl, refl, refl, refl)
+
+cut-listed : ListsOver (turnedLetters true (ascii "TGGT")) cutFrom (twoCalls (ascii "C+m"))
+unfolding fieldsOf firstNamed lists pack turnedLetters
+cut-listed = record { tagged = refl; listed = refl }
+
+cut-kept : keeps MM cutFrom cutInto ≡ true
+cut-kept =
+    cut-keeps cutFrom (ascii "TGGT") true (some 1) 200 (finishedWith false cutInto) (twoCalls (ascii "C+m")) 0 (cut-met .0) cut-listed (cut-met .1) (cut-met .3)
+
+cut-promise : (lo : ℕ) × (beginsAt cutFrom (ascii "TGGT") true (some 1) ≡ some lo)
+    × ListsOver (readSeq cutInto) cutInto (map (callsHeldIn lo (readSeq cutFrom)) (twoCalls (ascii "C+m")))
+cut-promise =
+    cut-lists cutFrom (ascii "TGGT") true (some 1) 200 (finishedWith false cutInto) (twoCalls (ascii "C+m")) (cut-met .0) cut-kept cut-listed (cut-met .2)
+
+cut-length-promise : disagrees (seqLength cutInto) (mnOf cutInto) ≡ false
+cut-length-promise = cut-length cutFrom (ascii "TGGT") true (some 1) 200 (finishedWith false cutInto) (cut-met .0) (cut-listed .tagged) cut-kept (cut-met .2)
+
+-- with no name twice, a tag went exactly where a name is gone
+went-met : noneTwice (fieldsIn droppedFrom) ≡ true
+unfolding fieldsOf nameOf pack
+went-met = refl
+
+went-promise : any (isGone (fieldsIn droppedFrom) (fieldsIn droppedTo)) fiveNames ≡ false
+went-promise = sym (went-is-gone {r = finishedWith false droppedTo} (dropped (2 ∷ []) 200 (drop-met .0)) went-met)
