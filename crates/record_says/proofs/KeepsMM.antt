@@ -21,7 +21,7 @@ use Rattle.record_fields.proofs.Kept.{name-kept}
 use Rattle.record_fields.specs.Bam.{isReverse, packedSeq, seqLength}
 use Rattle.record_fields.specs.Fields.{Field, MM, MN, firstNamed}
 use Rattle.record_rows.specs.Letters.{turnedLetters}
-use Rattle.record_says.proofs.Edited.{drop-is, no-place, no-place-turned}
+use Rattle.record_says.proofs.Listed.{drop-is, no-place, no-place-turned}
 use Rattle.record_says.proofs.Edits.{Tidy, cut-tidy, drop-tidy, editing-sound, first-is, lengths-none, lengths-some, mask-tidy}
 use Rattle.record_says.proofs.Firsts.{first-counted}
 use Rattle.record_says.proofs.Held.{empty-is, held, not-removed, text-there}
@@ -276,9 +276,10 @@ module _ (bam places : List ℕ) (room : ℕ) (r : Finished) (ls : List Listing)
       (λ z. edit-kept made tag (dropEdit (readSeq bam) ps) (drop-tidy (readSeq bam) ps) 0 none (lengths-none 0)
       (drop-edits (isReverse bam) (seqLength bam) (packedSeq bam) places fs z agrees) t drops)
 
-  -- If the reader accepts the tag over SEQ and MN agrees with SEQ, a drop keeps MM exactly where it takes no call under a header without '?'.
-  pub drop-keeps : disagrees (seqLength bam) (mnOf bam) ≡ false
-      → keeps MM bam (r .bytes) ≡ not (any (listsUnmarked (readPlaces bam places)) ls)
-  drop-keeps agrees =
-      test-ext (keeps MM bam (r .bytes)) (not (any (listsUnmarked ps) ls)) (λ k. ap not (kept-is-free k))
-      (λ f. free-is-kept agrees (not-true (any (listsUnmarked ps) ls) f))
+-- If the reader accepts the tag over SEQ and MN agrees with SEQ, a drop keeps MM exactly where it takes no call under a header without '?'.
+pub drop-keeps : (bam places : List ℕ) (room : ℕ) (r : Finished) (ls : List Listing) → dropRecord bam places room ≡ done r → ListsOver (readSeq bam) bam ls
+    → disagrees (seqLength bam) (mnOf bam) ≡ false → keeps MM bam (r .bytes) ≡ not (any (listsUnmarked (readPlaces bam places)) ls)
+drop-keeps bam places room r ls e old agrees =
+    let unmarked = any (listsUnmarked (readPlaces bam places)) ls in
+    test-ext (keeps MM bam (r .bytes)) (not unmarked) (λ k. ap not (kept-is-free bam places room r ls e old k))
+    (λ f. free-is-kept bam places room r ls e old agrees (not-true unmarked f))

@@ -17,7 +17,7 @@ use Rattle.record_fields.proofs.Kept.{name-kept, word-of-bytes}
 use Rattle.record_fields.specs.Bam.{isReverse, packedSeq, seqLength, wordBytes}
 use Rattle.record_fields.specs.Fields.{Field, MM, MN, firstNamed, nameOf}
 use Rattle.record_rows.specs.Letters.{turnedLetters}
-use Rattle.record_says.proofs.Edited.{cut-is, some-bases}
+use Rattle.record_says.proofs.Listed.{cut-is, some-bases}
 use Rattle.record_says.proofs.Edits.{cut-tidy, editing-sound, first-is, lengths-some}
 use Rattle.record_says.proofs.Firsts.{first-kept}
 use Rattle.record_says.proofs.Held.{empty-is, held, not-removed}
@@ -121,8 +121,13 @@ module _ (bam before : List ℕ) (before-reverse : Bool) (start : Option ℕ) (r
         ap (disagrees n) same ∙ set-agrees n (mnOf bam) (made .short) (omega (arith, long)))
         (λ i. ap (disagrees n) (first (mnOf bam) (rw (s, i)) named) ∙ no-integer n (mnOf bam) i))
 
-  -- After a cut that changed SEQ and kept MM, the record's MN, if it has one, says the length of SEQ.
-  pub cut-length : disagrees (seqLength (r .bytes)) (mnOf (r .bytes)) ≡ false
-  cut-length =
+  cut-agrees : disagrees (seqLength (r .bytes)) (mnOf (r .bytes)) ≡ false
+  cut-agrees =
       ap (λ (k : ℕ). disagrees k (mnOf (r .bytes))) (seq-length-same bam (r .bytes) (front-same made))
       ∙ by-test (isEmpty (mnOf bam)) (none-agrees made n) there-agrees
+
+-- After a cut that changed SEQ and kept MM, the record's MN, if it has one, says the length of SEQ.
+pub cut-length : (bam before : List ℕ) (before-reverse : Bool) (start : Option ℕ) (room : ℕ) (r : Finished)
+    → cutRecord bam before before-reverse start room ≡ done r → hasTag bam ≡ true → keeps MM bam (r .bytes) ≡ true
+    → sameBytes (turnedLetters before-reverse before) (readSeq bam) ≡ false → disagrees (seqLength (r .bytes)) (mnOf (r .bytes)) ≡ false
+cut-length = cut-agrees

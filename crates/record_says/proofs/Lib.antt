@@ -9,6 +9,7 @@ pub mod Went
 pub mod Room
 pub mod Firsts
 pub mod Held
+pub mod Listed
 pub mod Edited
 pub mod KeepsMM
 pub mod LengthAgrees

@@ -20,7 +20,7 @@ use Rattle.samtags.specs.Edits.{windowStart}
 use Rattle.samtags.specs.Reading.{lists}
 use Rattle.samtags.specs.Spots.{Listing}
 
--- the bytes of a record after its head, qualities included
+-- the bytes of a record behind its qualities: its fields
 abbrev pub tail : List ℕ → List ℕ
 tail bam = drop (headSize bam) bam
 
