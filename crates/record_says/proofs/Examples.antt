@@ -1,7 +1,8 @@
 -- Small records by their bytes, through the three calls.
 -- Assumes nothing.
 use mathlib.Core.Path.{refl, sym, _≡_}
-use Prim.Native.Nat.{ℕ, _+_}
+use Prim.Native.Nat.{ℕ, _+_, _≤_, _<_}
+use native.Mathlib.Omega.{arith}
 use mathlib.Core.Bool.{true, false}
 use mathlib.Core.List.{List, [], map, _++_, _∷_}
 use mathlib.Core.Option.{none, some}
@@ -11,20 +12,21 @@ use Rattle.lent.specs.Outcome.{done, refuse}
 use Rattle.packed.specs.Packed.{pack, unpack}
 use Rattle.packed.specs.Stored.{inRead}
 use Rattle.record_fields.specs.Bam.{isReverse, seqLength}
-use Rattle.record_fields.specs.Fields.{Field, MM, fieldsOf, firstNamed, joined, nameOf}
+use Rattle.record_fields.specs.Fields.{Field, MM, fieldsOf, firstNamed, joined, nameOf, am}
 use Rattle.record_rows.specs.Letters.{turnedLetters}
-use Rattle.record_says.proofs.Edited.{cut-lists, drop-lists, mask-lists}
+use Rattle.record_says.proofs.Edited.{cut-lists, drop-lists, mask-lists, clean-cut-lists, drop-alone-lists}
 use Rattle.record_says.proofs.KeepsMM.{mask-keeps, cut-keeps}
 use Rattle.record_says.proofs.LengthAgrees.{cut-length}
 use Rattle.record_says.proofs.Went.{went-is-gone}
-use Rattle.record_says.specs.Says.{ListsOver, beginsAt, dropped, fieldsIn, fiveNames, isGone, keeps, mnOf, noneTwice, readSeq, storedSeq}
-use Rattle.record_tags.specs.Records.{cutRecord, dropRecord, finishedWith, maskRecord, windowIn}
+use Rattle.record_says.specs.Says.{ListsOver, beginsAt, dropped, fieldsIn, fiveNames, isGone, keeps, mnOf, noneTwice, readSeq, storedSeq, AloneListsOver}
+use Rattle.record_tags.specs.Records.{cutRecord, dropRecord, finishedWith, maskRecord, windowIn, startOf}
 use Rattle.record_tags.specs.Values.{disagrees}
 use Rattle.samtags.proofs.Kept.{callsHeldIn}
 use Rattle.samtags.proofs.Masking.{differsByN, unmaskedCalls}
 use Rattle.samtags.specs.Bytes.{ascii}
 use Rattle.samtags.specs.Edits.{sameBytes}
 use Rattle.samtags.specs.Reading.{lists}
+use Rattle.samtags.specs.Session.{window}
 use Rattle.samtags.specs.Spots.{Call, Listing}
 
 -- a record with the name `r`, no CIGAR, a flag of one byte, SEQ and its fields
@@ -256,6 +258,19 @@ cut-promise : (lo : ℕ) × (beginsAt cutFrom (ascii "TGGT") true (some 1) ≡ s
 cut-promise =
     cut-lists cutFrom (ascii "TGGT") true (some 1) 200 (finishedWith false cutInto) (twoCalls (ascii "C+m")) (cut-met .0) cut-kept cut-listed (cut-met .2)
 
+clean-met :
+    (startOf (isReverse cutFrom) true 4 (seqLength cutFrom) (some 1) ≡ some 0)
+    × (readSeq cutFrom ≡ window 0 3 (turnedLetters true (ascii "TGGT")))
+    × (0 + 3 ≤ length (turnedLetters true (ascii "TGGT")))
+    × (length (readSeq cutFrom) < length (turnedLetters true (ascii "TGGT")))
+unfolding inRead pack turnedLetters
+clean-met = (refl, refl, omega arith, omega arith)
+
+clean-cut-promise : ListsOver (readSeq cutInto) cutInto (twoCalls (ascii "C+m"))
+clean-cut-promise =
+    clean-cut-lists cutFrom (ascii "TGGT") true (some 1) 200 (finishedWith false cutInto) (twoCalls (ascii "C+m")) (cut-met .0) cut-kept cut-listed (cut-met .2)
+    0 3 (clean-met .0) (clean-met .1) (clean-met .2) (clean-met .3)
+
 cut-length-promise : disagrees (seqLength cutInto) (mnOf cutInto) ≡ false
 cut-length-promise = cut-length cutFrom (ascii "TGGT") true (some 1) 200 (finishedWith false cutInto) (cut-met .0) (cut-listed .tagged) cut-kept (cut-met .2)
 
@@ -266,3 +281,29 @@ went-met = refl
 
 went-promise : any (isGone (fieldsIn droppedFrom) (fieldsIn droppedTo)) fiveNames ≡ false
 went-promise = sym (went-is-gone {r = finishedWith false droppedTo} (dropped (2 ∷ []) 200 (drop-met .0)) went-met)
+
+-- am, which is read without ML
+abbrev aloneFrom : List ℕ
+aloneFrom = dropsFrom (text (ascii "am") (ascii "C+m?,0,0;") ∷ [])
+
+abbrev aloneTo : List ℕ
+aloneTo = dropsFrom (text (ascii "am") (ascii "C+m?,0;") ∷ [])
+
+abbrev bareCallAt : ℕ → Call
+bareCallAt p = record { place = p; values = [] }
+
+abbrev bareCalls : List Call → List Listing
+bareCalls cs = record { header = ascii "C+m?"; calls = cs } ∷ []
+
+alone-met : (dropRecord aloneFrom (2 ∷ []) 200 ≡ done (finishedWith false aloneTo)) × (keeps am aloneFrom aloneTo ≡ true)
+unfolding dropRecord fieldsOf nameOf pack
+alone-met = (refl, refl)
+
+alone-listed : AloneListsOver (readSeq aloneFrom) am aloneFrom (bareCalls (bareCallAt 1 ∷ bareCallAt 2 ∷ []))
+unfolding fieldsOf firstNamed inRead lists pack
+alone-listed = record { is-text = refl; listed = refl }
+
+alone-promise : AloneListsOver (readSeq aloneTo) am aloneTo (bareCalls (bareCallAt 1 ∷ []))
+alone-promise =
+    drop-alone-lists am refl aloneFrom 200 (finishedWith false aloneTo) (bareCalls (bareCallAt 1 ∷ bareCallAt 2 ∷ [])) (alone-met .1) (2 ∷ []) (alone-met .0)
+    alone-listed
