@@ -1,0 +1,16 @@
+pub mod Pieces
+pub mod Texts
+pub mod Edits
+pub mod Made
+pub mod Parses
+pub mod Untouched
+pub mod AsItCame
+pub mod Went
+pub mod Room
+pub mod Firsts
+pub mod Held
+pub mod Listed
+pub mod Edited
+pub mod KeepsMM
+pub mod LengthAgrees
+pub mod Examples

@@ -1,0 +1,1 @@
+// Theorems about the three calls on a record; no code.
