@@ -3,3 +3,4 @@ pub mod Cited
 pub mod Unique
 pub mod Numbers
 pub mod Refused
+pub mod Made
