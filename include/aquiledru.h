@@ -42,7 +42,7 @@ extern "C" {
 #endif
 
 /* The version, which `tagedit --version` prints and CHANGELOG.md describes. */
-#define AQL_VERSION "0.2.0"
+#define AQL_VERSION "0.3.0"
 
 /* The numbers. With any number except 0 everything that was lent is unchanged. If several apply, the first in this order is returned: 13, 1, 2, 21, 11,
  * 3, 4; then the text from the left, 5 at a header and at each entry 6, 7, 8, 10; after the last group 9, or in a build 20; last 12. The last line of a

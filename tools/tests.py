@@ -223,7 +223,7 @@ class Documents(unittest.TestCase):
     def test_one_table_of_numbers(self):
         after = re.compile(r"^## Numbers$.*?(?=^## |\Z)", re.S | re.M)
         tables = [re.findall(r"^\| \d+ \| .*", after.search(read(*path))[0], re.M) for path in (["README.md"], ["docs", "SCOPE.md"])]
-        self.assertEqual(len(tables[0]), 16)
+        self.assertEqual(len(tables[0]), 18)
         self.assertEqual(*tables)
 
     def test_pinned_kit(self):
