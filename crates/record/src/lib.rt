@@ -94,15 +94,15 @@ pub fn mask_record(bam: &[u8], before: &[u8], out: &mut [u8]) -> Recorded
 {
     let mut ats = no_spots();
     let mut sizes = no_spots();
-    let opened = open_record(bam, before.len(), &mut ats, &mut sizes);
+    let opened = open_record(bam, before.len(), &mut ats, &mut sizes); // its letters are bounded too
     let Opened::To(head) = opened else {
         return Recorded::Refused(opened.refusal());
     };
     let tagged = record_steps::is_tagged(&sizes);
     if !tagged {
-        return keep_record(bam, out);
+        return keep_record(bam, out); // whatever MN is
     }
-    let stale = is_stale(bam, ats[2], sizes[2], head.bases);
+    let stale = is_stale(bam, ats[2], sizes[2], head.bases); // a mask keeps the length
     if stale {
         return remove_record(bam, head.fields_at, out);
     }
@@ -174,7 +174,7 @@ pub fn drop_record(bam: &[u8], places: &[u32], out: &mut [u8]) -> Recorded
         return keep_record(bam, out);
     }
     let stale = is_stale(bam, ats[2], sizes[2], head.bases);
-    if stale {
+    if stale { // the tags are of another SEQ
         return remove_record(bam, head.fields_at, out);
     }
     drop_opened(bam, head, &ats, &sizes, places, out)

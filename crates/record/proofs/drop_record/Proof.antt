@@ -63,7 +63,7 @@ stale c =
 
 -- there is a place
 some-place : (e : tie.Else1) → isEmpty (e .before .before .before .before .before .before .before .before .before .before .before .before .args .places .now) ≡ false
-some-place e = let l = e .before .before .before .before .before .before .before .before .before .before .before .before .args .places .now in empty-is l ∙ ne-eqb (length l) 0 (e .if1 .left)
+some-place e = let l = e .before .before .before .before .before .before .before .before .before .before .before .before .args .places .now in empty-is l ∙ ne-eqb (length l) 0 (λ z. let left = e .if1 .left in omega (arith, z, left))
 
 no-spots-requires : tie.Need-no-spots-requires
 no-spots-requires c κs = search needs
@@ -105,7 +105,7 @@ returns-2 c =
     let o = to k in
     let last = c .before .before .before .before .before .before .before .before .open-record .last .1 .1 in
     c .before .before .keep-record .ensures
-    ∙ left-by (a .out .now) (sym (drop-none x 0 (o .0) (o .2) (o .4) (length (a .out .now)) (a .places .now) refl (empty-is (a .places .now) ∙ eq-eqb (length (a .places .now)) 0 (c .before .before .before .before .if1 .taken))))
+    ∙ left-by (a .out .now) (sym (drop-none x 0 (o .0) (o .2) (o .4) (length (a .out .now)) (a .places .now) refl (empty-is (a .places .now) ∙ eq-eqb (length (a .places .now)) 0 (let none = c .before .before .before .before .if1 .taken in omega (arith, none)))))
 
 is-tagged-requires : tie.Need-is-tagged-requires
 is-tagged-requires c κs = search needs
@@ -161,9 +161,10 @@ returns-4 c =
     let o = to k in
     let last = c .before .before .before .before .before .before .before .before .before .before .before .before .before .open-record .last .1 .1 in
     let yes : isTagged (fieldsOf (drop (headSize x) x)) ≡ true = sym (tagged (c .before .before .before .before .before .before .before)) ∙ not-false _ (c .before .before .before .before .before .before .if2 .left) in
+    let gone : c .before .before .before .before .before .is-stale .result ≡ true = c .before .before .before .before .if3 .taken in
     c .before .before .remove-record .ensures
     ∙ left-by (a .out .now) (removed-from x (k .opened .given .0 .0) (o .1) (length (a .out .now))
-    ∙ sym (drop-stale x 0 (o .0) (o .2) (o .4) (length (a .out .now)) (a .places .now) refl (some-place (c .before .before .before .before .before .before .before .before .before)) yes (sym (stale (c .before .before .before .before .before)) ∙ c .before .before .before .before .if3 .taken)))
+    ∙ sym (drop-stale x 0 (o .0) (o .2) (o .4) (length (a .out .now)) (a .places .now) refl (some-place (c .before .before .before .before .before .before .before .before .before)) yes (sym (stale (c .before .before .before .before .before)) ∙ gone)))
 
 drop-opened-requires : tie.Need-drop-opened-requires
 drop-opened-requires c κs =

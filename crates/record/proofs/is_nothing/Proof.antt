@@ -6,7 +6,7 @@ use Rattle.record.proofs.is_nothing.Statement.{statement}
 use Rattle.record.proofs.is_nothing.Tie as tie
 
 returns : tie.Need-returns
-returns c = rw (ne-eqb (c .before .args .letters) 0 (c .if1 .taken))
+returns c = rw (ne-eqb (c .before .args .letters) 0 (λ e. omega (arith, e)))
 
 returns-2 : tie.Need-returns-2
 returns-2 c = rw (eq-eqb (c .before .args .letters) 0 (omega arith))

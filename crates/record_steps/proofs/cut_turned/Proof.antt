@@ -1,6 +1,8 @@
 -- `cut_turned`: without a window all tags go, else they are edited over it.
 -- Assumes nothing.
 use mathlib.Core.Path.{_∙_, ap, refl, sym}
+use mathlib.Core.Bool.{not}
+use lib.Dec.{eqb}
 use lib.ListN.{drop, length}
 use borrow.Author.Tests.{not-false, not-true}
 use Rattle.record_fates.proofs.FateLaws.{opened-inside}
@@ -85,7 +87,8 @@ returns-3 c =
     let fs = fieldsOf (drop (headSize x) x) in
     let s = c .before .before .before .before .before .before .before .before .before .before .before .start in
     c .before .before .before .before .edit-record .ensures
-    ∙ left-by (a .out .now) (cut-is-made x (a .head) (t .pre .0 .1) (length (a .out .now)) (s .given .0 .0) (a .old .now) (a .new .now) _ refl (t .pre .1 .1)
+    ∙ left-by (a .out .now) (cut-is-made x (a .head) (t .pre .0 .1) (length (a .out .now)) (s .given .0 .0) (a .old .now) (a .new .now)
+    (not (eqb (length (a .old .now)) (length (a .new .now)))) refl (t .pre .1 .1)
     ∙ fields-by x (length (a .out .now)) fs (sym (cut-to x (a .old .now) (a .new .now) fs (startSays (a .start)) (s .given .0 .0) (sym (ap startSays (s .given .1)))
     (sym (c .before .before .before .before .before .before .before .before .before .lies-in .ensures) ∙ not-false _ (c .before .before .before .before .before .before .before .before .if1 .left)))))
 
