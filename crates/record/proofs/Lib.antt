@@ -4,3 +4,4 @@ pub mod Unique
 pub mod Numbers
 pub mod Refused
 pub mod Made
+pub mod Promises
