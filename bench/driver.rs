@@ -222,6 +222,8 @@ fn on_records(meter: &mut Meter, c: &Case) {
         }
     }
     let r = Records::new(c, true);
+    let left = on_record(meter, c, "record-exchanged", mask, &r.exchanged, &r);
+    assert!(has_modification_tags(&left) && left != r.exchanged, "a record of {} bases is edited with ML before MM", c.bases);
     for (row, record) in [("record-same", &r.whole), ("record-untagged", &r.untagged)] {
         let left = on_record(meter, c, row, mask, record, &r);
         assert!(left == *record, "a record of {} bases stays as it came", c.bases);

@@ -41,13 +41,16 @@ pub struct Records {
     pub whole: Vec<u8>,
     pub masked: Vec<u8>,
     pub cut: Vec<u8>,
+    /// As `masked`, with ML before MM.
+    pub exchanged: Vec<u8>,
     pub untagged: Vec<u8>,
 }
 
 impl Records {
     pub fn new(c: &Case, reverse: bool) -> Self {
         let stored = |seq: &[u8]| if reverse { reverse_complement(seq) } else { seq.to_vec() };
-        let tags = tags(c);
+        let [mm, ml, mn] = tags(c);
+        let tags = [&mm[..], &ml, &mn].concat();
         let (places, places_as_sizes) =
             if reverse { (&c.stored.places, &c.stored.places_as_sizes) } else { (&c.places, &c.places_as_sizes) };
         Self {
@@ -59,16 +62,21 @@ impl Records {
             whole: record(&stored(&c.seq), reverse, 0, &tags),
             masked: record(&stored(&c.masked), reverse, 0, &tags),
             cut: record(&stored(c.window()), reverse, c.cut, &tags),
+            exchanged: record(&stored(&c.masked), reverse, 0, &[&ml[..], &mm, &mn].concat()),
             untagged: record(&stored(&c.seq), reverse, 0, &[]),
         }
     }
 }
 
 /// MM, ML, and MN, the number of bases that they were written for.
-fn tags(c: &Case) -> Vec<u8> {
+fn tags(c: &Case) -> [Vec<u8>; 3] {
     let values = (c.ml.len() as u32).to_le_bytes();
     let bases = (c.bases as u16).to_le_bytes();
-    [&b"MMZ"[..], c.mm.as_bytes(), b"\0MLBC", &values, &c.ml, b"MNS", &bases].concat()
+    [
+        [b"MMZ", c.mm.as_bytes(), b"\0"].concat(),
+        [&b"MLBC"[..], &values, &c.ml].concat(),
+        [&b"MNS"[..], &bases].concat(),
+    ]
 }
 
 /// A record of the bases: aligned from the reference's front, with a mismatch in the middle of every 200 bases and a deleted base between

@@ -16,6 +16,8 @@ EDITS = ["mask", "drop", "cut"]
 ALONE = ["check", "tally"]
 STORED = ["read", "check", "tally", "mask", "drop", "cut"]
 STRANDS = [("reverse", ""), ("forward", "-forward")]
+# A record that is edited, in which ML stands before MM.
+EXCHANGED = [("mask, ML before MM", "record-exchanged", DENSITIES)]
 # Records that stay as they came. Without tags a record has no density.
 STAYS = [("mask, same SEQ", "record-same", DENSITIES), ("mask, no tags", "record-untagged", ["dense"])]
 TURNED = ["turn", "unpack", "unpack-forward"]
@@ -119,7 +121,7 @@ def records(cost):
 
     lines = [line(row, f"record-{row}{which}", bases, density, strand)
              for row in EDITS for bases in SIZES for density in DENSITIES for strand, which in STRANDS]
-    lines += [line(name, row, bases, density, "reverse") for name, row, densities in STAYS for bases in SIZES for density in densities]
+    lines += [line(name, row, bases, density, "reverse") for name, row, densities in EXCHANGED + STAYS for bases in SIZES for density in densities]
     return markdown(head, lines)
 
 
@@ -149,7 +151,7 @@ def short(cost):
         kept = f"stored-{row}"
         lines += [line(f"{row}, stored", kept), line(f"{row}, stored, a session's step", kept, who="session")]
     lines += [line(f"{row}, record", f"record-{row}", to="quick") for row in EDITS]
-    lines += [line(f"{name}, record", row, to="quick") for name, row, _ in STAYS]
+    lines += [line(f"{name}, record", row, to="quick") for name, row, _ in EXCHANGED + STAYS]
     return markdown(head, lines) + "\n" + short_turned(cost)
 
 

@@ -24,10 +24,12 @@ goes f = []
 abbrev pub Changes : Type 0
 Changes = ℕ → List Change
 
+-- what becomes of the next field
 abbrev pub applied : List Change → Field → List Field
 applied [] f = f ∷ []
 applied (g ∷ gs) f = g f
 
+-- the changes for the fields after the next one
 abbrev pub rest : List Change → List Change
 rest [] = []
 rest (g ∷ gs) = gs
@@ -36,6 +38,7 @@ rest (g ∷ gs) = gs
 abbrev pub after : ℕ → Changes → Changes
 after name c k = cond (eqb k name) (rest (c k)) (c k)
 
+-- the fields after all changes, in their order
 unfoldable pub changed : Changes → List Field → List Field
 unfolding nameOf
 changed c [] = []
@@ -72,7 +75,7 @@ unfoldable pub withML : TagEdit → Field → Field → Outcome Tag
 withML edit mm ml =
     cond (isEmpty ml) (edit false (textOf mm) []) (need (isByteArray ml) 8 (edit true (textOf mm) (valuesOf ml)))
 
--- the edit of MM, if it is a text
+-- the edit refuses
 abbrev pub refuses : Outcome Tag → Bool
 refuses (refused r) = true
 refuses (done t) = false
@@ -81,6 +84,7 @@ refuses (done t) = false
 abbrev pub lengthSet : ℕ → Change
 lengthSet n f = cond (isInteger f) (withInteger n f ∷ []) (f ∷ [])
 
+-- and is not looked at if SEQ's length did not change
 abbrev pub lengthSets : Option ℕ → List Change
 lengthSets none = []
 lengthSets (some n) = lengthSet n ∷ []

@@ -24,6 +24,7 @@ unfoldable pub maskEdit : List ℕ → List ℕ → TagEdit
 unfolding edited maskedTo
 maskEdit before seq ml? text ml = need (eqb (length before) (length seq)) 2 (edited (maskedTo seq) ml? before text ml)
 
+-- without a tag, and if SEQ is the same as it was, the fields stay; if MN disagrees with SEQ's length, all five go
 unfoldable pub maskFields : Bool → ℕ → List ℕ → List ℕ → List Field → List Field
 unfolding changed editing inRead isTagged maskEdit removal turnedLetters unpack
 maskFields reverse n packed before fs =
@@ -37,6 +38,7 @@ unfoldable pub dropEdit : List ℕ → List ℕ → TagEdit
 unfolding edited droppingAt
 dropEdit seq places ml? text ml = edited (droppingAt places) ml? seq text ml
 
+-- without a place or a tag the fields stay; if MN disagrees with SEQ's length, all five go
 unfoldable pub dropFields : Bool → ℕ → List ℕ → List ℕ → List Field → List Field
 unfolding changed editing dropEdit inRead isTagged removal
 dropFields reverse n packed places fs =
@@ -54,6 +56,7 @@ abbrev pub windowIn : Option ℕ → List ℕ → List ℕ → Option ℕ
 windowIn none before seq = none
 windowIn (some lo) before seq = cond (leb lo (length before) && liesIn seq (drop lo before)) (some lo) none
 
+-- the read is stored in the same direction as before
 abbrev pub sameDirection : Bool → Bool → Bool
 sameDirection reverse before-reverse = cond reverse before-reverse (not before-reverse)
 
@@ -61,10 +64,13 @@ sameDirection reverse before-reverse = cond reverse before-reverse (not before-r
 abbrev pub startOf : Bool → Bool → ℕ → ℕ → Option ℕ → Option ℕ
 startOf reverse before-reverse n k start = cond (sameDirection reverse before-reverse) (startInRead reverse n k start) none
 
+-- all five go if there is no window
 abbrev pub orRemoval : Option ℕ → List Field → (ℕ → List Field) → List Field
 orRemoval none fs f = changed removal fs
 orRemoval (some lo) fs f = f lo
 
+-- without a tag, from no bases to no bases, and if SEQ is the same in read orientation, the fields stay; if MN disagrees with the length before, or SEQ is no
+-- window, all five go
 unfoldable pub cutFields : Bool → ℕ → List ℕ → List ℕ → Bool → Option ℕ → List Field → List Field
 unfolding changed cutEdit editing inRead isTagged removal turnedLetters
 cutFields reverse n packed before before-reverse start fs =
@@ -114,6 +120,7 @@ remade bam k room new =
     need (isWhole bam) 14
     (andThen (fields (drop (headSize bam) bam)) (λ fs. need (inDomain (seqLength bam) k fs) 1 (inRoom room (finished bam fs (new fs)))))
 
+-- the three calls; `room` is how long the row for the new record is
 unfoldable pub maskRecord : List ℕ → List ℕ → ℕ → Outcome Finished
 unfolding remade maskFields
 maskRecord bam before room = remade bam (length before) room (maskFields (isReverse bam) (seqLength bam) (packedSeq bam) before)
