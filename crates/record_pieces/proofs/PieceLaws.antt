@@ -19,10 +19,10 @@ use Rattle.lent.specs.Outcome.{Outcome, refused, done}
 use Rattle.record_fields.specs.Bam.{wordBytes}
 use Rattle.record_fields.specs.Fields.{Field}
 use Rattle.record_fields.specs.Spots.{part}
-use Rattle.record_tags.specs.Changes.{applied, lengthSet, orGoes}
-use Rattle.record_tags.specs.Plans.{Means, byWindow, isReady, queueBy}
+use Rattle.record_tags.specs.Changes.{TagEdit, applied, lengthSet, orGoes}
+use Rattle.record_tags.specs.Plans.{Means, byWindow, isReady, means, queueBy}
 use Rattle.record_tags.specs.Values.{isInteger, textOf, typeOf, withInteger, withText, withValues}
-use Rattle.record_pieces.specs.Pens.{Wrote, textIn, valuesIn}
+use Rattle.record_pieces.specs.Pens.{Waits, Wrote, textIn, valuesIn}
 use Rattle.samtags.proofs.Length.{never-longer}
 use Rattle.samtags.specs.Writing.{Tag}
 
@@ -142,38 +142,34 @@ module _ (bam out out1 out2 out3 : List ℕ) (at size end from s : ℕ) (h : 4 �
 
 -- ---- an edited tag
 
--- what `put_tag` tells of the edited tag, if the edit is done
-pub tag-put : (o : Outcome Tag) (n v at : ℕ) (out out′ work work′ : List ℕ) → isDone o ≡ true
-    → ((t : Tag) → o ≡ done t → (n ≡ length (t .text)) × (v ≡ length (t .ml)) × (out′ ≡ sets out at (t .text)) × (work′ ≡ sets work 0 (t .ml)))
-    → (n ≡ length (textIn o)) × (v ≡ length (valuesIn o)) × (out′ ≡ sets out at (textIn o)) × (work′ ≡ sets work 0 (valuesIn o))
-tag-put (refused r) n v at out out′ work work′ d p = let z : _≡_ {A = ℕ} 0 1 = cc in absurd (omega arith)
-tag-put (done t) n v at out out′ work work′ d p = p t refl
+-- a tag whose edit is done
+pub done-in : (o : Outcome Tag) → isDone o ≡ true → o ≡ done (record { text = textIn o; ml = valuesIn o })
+done-in (refused r) d = let z : _≡_ {A = ℕ} 0 1 = cc in absurd (omega arith)
+done-in (done t) d = refl
 
--- what `put_values` tells
-pub values-put : (o : Outcome Tag) (v at : ℕ) (out out′ : List ℕ) → isDone o ≡ true
-    → ((t : Tag) → o ≡ done t → (v ≡ length (t .ml)) × (out′ ≡ sets out at (t .ml)))
-    → (v ≡ length (valuesIn o)) × (out′ ≡ sets out at (valuesIn o))
-values-put (refused r) v at out out′ d p = let z : _≡_ {A = ℕ} 0 1 = cc in absurd (omega arith)
-values-put (done t) v at out out′ d p = p t refl
-
--- values that were written into a row that is long enough are its front
-pub waiting-front : (vs work work′ : List ℕ) (n : ℕ) → work′ ≡ sets work 0 vs → n ≡ length vs → leb n (length work′) ≡ true → take n work′ ≡ vs
-waiting-front vs work work′ n e q h =
+-- a list that was written into a row waits there, if the row is long enough
+pub now-waits : (xs work work′ : List ℕ) (n : ℕ) → work′ ≡ sets work 0 xs → n ≡ length xs → Waits (leb n (length work′)) xs n work′
+now-waits xs work work′ n e q h =
     let fits = leb-true n (length work′) h in
-    let same = ap length e ∙ length-sets work 0 vs in
-    rw (e, q) (ap (take (length vs)) (over-stored vs work (omega (arith, fits, same, q))) ∙ over-front vs work)
+    let same = ap length e ∙ length-sets work 0 xs in
+    (q, rw (e, q) (ap (take (length xs)) (over-stored xs work (omega (arith, fits, same, q))) ∙ over-front xs work))
 
--- values that wait are within their row
-pub waiting-fits : (vs work : List ℕ) (n : ℕ) → n ≡ length vs → take n work ≡ vs → n ≤ length work
-waiting-fits vs work n q e = let t = ap length e in omega (arith, length-take n work, t)
+-- and else nothing does
+pub none-waits : (xs work : List ℕ) (n : ℕ) → Waits false xs n work
+none-waits xs work n h = let z : _≡_ {A = ℕ} 0 1 = cc in absurd (omega arith)
 
--- an edited tag has no more values than it had
-pub values-short : (lo : ℕ) (after marks seq mm ml : List ℕ) → length (valuesIn (byWindow lo after marks seq true mm ml)) ≤ length ml
-values-short lo after marks seq mm ml = go (byWindow lo after marks seq true mm ml) refl
+-- a list that waits is within its row
+pub waiting-fits : (xs work : List ℕ) (n : ℕ) → n ≡ length xs → take n work ≡ xs → n ≤ length work
+waiting-fits xs work n q e = let t = ap length e in omega (arith, length-take n work, t)
+
+-- an edited tag has no longer a text and no more values than it had
+pub no-longer : (lo : ℕ) (after marks seq mm ml : List ℕ)
+    → let o = byWindow lo after marks seq true mm ml in (length (textIn o) ≤ length mm) × (length (valuesIn o) ≤ length ml)
+no-longer lo after marks seq mm ml = go (byWindow lo after marks seq true mm ml) refl
   where
-    go : (o : Outcome Tag) → byWindow lo after marks seq true mm ml ≡ o → length (valuesIn o) ≤ length ml
-    go (refused r) e = omega arith
-    go (done t) e = never-longer (windowEdit lo after marks) true seq mm ml t e .1
+    go : (o : Outcome Tag) → byWindow lo after marks seq true mm ml ≡ o → (length (textIn o) ≤ length mm) × (length (valuesIn o) ≤ length ml)
+    go (refused r) e = (omega arith, omega arith)
+    go (done t) e = never-longer (windowEdit lo after marks) true seq mm ml t e
 
 -- ---- by the numbers of a plan
 
@@ -238,6 +234,16 @@ module _ (m : Means) (a : ℕ) (f : Field) where
     pub by-values : a ≡ 4 → applied (queueBy m a) f ≡ withValues (valuesIn (m .edit true (m .mm) (m .ml))) f ∷ []
     unfolding queueBy
     by-values e = rw e (one-values (m .edit true (m .mm) (m .ml)) f (ready-values e .0))
+
+-- MM and ML matter for 3 and 4 alone
+module _ (edit : TagEdit) (mm ml : List ℕ) (bases a : ℕ) (f : Field) (n3 : a ≡ 3 → ⊥) (n4 : a ≡ 4 → ⊥) where
+  pub ready-other : isReady (means edit [] [] bases) a f ≡ isReady (means edit mm ml bases) a f
+  unfolding isReady
+  ready-other = rw (ne-eqb a 3 n3, ne-eqb a 4 n4)
+
+  pub applied-other : applied (queueBy (means edit mm ml bases) a) f ≡ applied (queueBy (means edit [] [] bases) a) f
+  unfolding queueBy
+  applied-other = rw (ne-eqb a 3 n3, ne-eqb a 4 n4)
 
 -- MN that is an integer, and one that is not
 pub length-set-integer : (n : ℕ) (f : Field) → isInteger f ≡ true → lengthSet n f ≡ withInteger n f ∷ []

@@ -2,7 +2,7 @@
 -- Assumes nothing.
 use mathlib.Core.Path.{_≡_}
 use Prim.Native.Nat.{ℕ, _+_}
-use mathlib.Core.Bool.{true}
+use mathlib.Core.Bool.{Bool, true}
 use mathlib.Core.List.{List, []}
 use lib.ListN.{length, take}
 use lib.Seq.{sets}
@@ -21,9 +21,13 @@ abbrev pub valuesIn : Outcome Tag → List ℕ
 valuesIn (refused r) = []
 valuesIn (done t) = t .ml
 
--- if the pen says so, the values wait in the work row
-abbrev pub Waiting : List ℕ → Pen → List ℕ → Type 0
-Waiting values pen work = pen .filled ≡ true → (pen .kept ≡ length values) × (take (pen .kept) work ≡ values)
+-- a list waits at the front of the work row, if the flag says so
+abbrev pub Waits : Bool → List ℕ → ℕ → List ℕ → Type 0
+Waits flag xs kept work = flag ≡ true → (kept ≡ length xs) × (take kept work ≡ xs)
+
+-- what the pen says of the work row, for an edited tag: its values wait there, or its text
+abbrev pub Waiting : Outcome Tag → Pen → List ℕ → Type 0
+Waiting o pen work = Waits (pen .values) (valuesIn o) (pen .kept) work × Waits (pen .text) (textIn o) (pen .kept) work
 
 -- fields written from an index on, as far as the row reaches; r is the index after them
 abbrev pub Wrote : List Field → ℕ → List ℕ → ℕ → List ℕ → Type 0

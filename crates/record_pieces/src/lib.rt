@@ -1,8 +1,8 @@
 // Writes one field of the new record, as far as its row reaches, by the plan's number for it. A support crate: its functions may have a `requires`; the
 // public calls are in `record`.
 //
-// An edited text goes straight to its place, and its values into a work row, since two parts of one row cannot be lent at once. They are copied from there
-// if ML comes after MM and they fit the work row; else the walk over the tag runs once more, for the values alone.
+// Two parts of one row cannot be lent at once. So the walk over a tag writes straight to its place what comes first, the text of MM or the values of ML, and
+// the other into a work row. That is copied from there, if the work row has room for it; else the walk runs once more.
 ghost use mathlib.Core.Path.{_≡_};
 ghost use mathlib.Core.Bool.{false, true};
 ghost use mathlib.Core.List.{[], _∷_};
@@ -19,11 +19,12 @@ ghost use Rattle.samtags.specs.Bytes.{ascii};
 use record_fields::sizes::put_word;
 use record_rows::put_bytes;
 
-// The end of the written part, and how many values wait in the work row, if they do.
+// The end of the written part, and how many bytes of the edited tag wait in the work row: its values, its text, or neither.
 pub struct Pen {
     pub end: usize,
     pub kept: usize,
-    pub filled: bool,
+    pub values: bool,
+    pub text: bool,
 }
 
 // Writes a text that is edited without ML.
@@ -65,8 +66,8 @@ fn put_alone(
     last + 1
 }
 
-// Writes the text of MM, edited with its ML. The values go to the work row.
-fn put_paired(
+// Writes the text of MM by a walk over the tag. The values wait in the work row.
+fn walk_text(
     bam: &[u8],
     at: usize,
     mm: &[u8],
@@ -85,8 +86,7 @@ fn put_paired(
     ensures { λ r. ⌜ ((size : ℕ) → 4 ≤ size → Wrote (withText
         (textIn (byWindow lo (now (after .entry)) (now (marks .entry)) (now (seq .entry)) true (now (mm .entry)) (now (ml .entry))))
         (part (now (bam .entry)) at size) ∷ []) end (now (out .entry)) (r .end) (now (out .exit)))
-        × Waiting (valuesIn (byWindow lo (now (after .entry)) (now (marks .entry)) (now (seq .entry)) true (now (mm .entry)) (now (ml .entry))))
-        r (now (work .exit)) ⌝ }
+        × Waiting (byWindow lo (now (after .entry)) (now (marks .entry)) (now (seq .entry)) true (now (mm .entry)) (now (ml .entry))) r (now (work .exit)) ⌝ }
 {
     let from = put_bytes(out, end, &bam[at..at + 3]);
     let put = record_rows::put_tag(seq, after, marks, mm, ml, lo, true, out, from, work);
@@ -95,23 +95,13 @@ fn put_paired(
     Pen {
         end: last + 1,
         kept: put.values,
-        filled: put.values <= work.len(),
+        values: put.values <= work.len(),
+        text: false,
     }
 }
 
-// Writes ML with the values that wait in the work row.
-fn put_waiting(bam: &[u8], at: usize, work: &[u8], kept: usize, out: &mut [u8], end: usize) -> usize
-    requires { ⌜ (at + 4 ≤ length (now bam)) × (kept ≤ length (now work)) × (kept ≤ 65536) × (end + kept + 8 < 18446744073709551616) ⌝ }
-    ensures { λ r. ⌜ ((size : ℕ) → 4 ≤ size → Wrote (withValues (take kept (now (work .entry))) (part (now (bam .entry)) at size) ∷ [])
-        end (now (out .entry)) r (now (out .exit))) ⌝ }
-{
-    let from = put_bytes(out, end, &bam[at..at + 4]);
-    put_word(out, from, kept);
-    put_bytes(out, from + 4, &work[0..kept])
-}
-
-// Writes ML with the values of an edited tag, by a walk over the tag of their own.
-fn put_again(
+// Writes ML by a walk over the tag. The text waits in the work row.
+fn walk_array(
     bam: &[u8],
     at: usize,
     mm: &[u8],
@@ -122,18 +112,118 @@ fn put_again(
     lo: usize,
     out: &mut [u8],
     end: usize,
-) -> usize
+    work: &mut [u8],
+) -> Pen
     requires { ⌜ (at + 4 ≤ length (now bam)) × (end + length (now ml) + 8 < 18446744073709551616) × (length (now seq) ≤ 16000)
         × (length (now mm) ≤ 65536) × (length (now ml) ≤ 65536) ⌝ }
     requires { ⌜ isDone (byWindow lo (now after) (now marks) (now seq) true (now mm) (now ml)) ≡ true ⌝ }
     ensures { λ r. ⌜ ((size : ℕ) → 4 ≤ size → Wrote (withValues
         (valuesIn (byWindow lo (now (after .entry)) (now (marks .entry)) (now (seq .entry)) true (now (mm .entry)) (now (ml .entry))))
-        (part (now (bam .entry)) at size) ∷ []) end (now (out .entry)) r (now (out .exit))) ⌝ }
+        (part (now (bam .entry)) at size) ∷ []) end (now (out .entry)) (r .end) (now (out .exit)))
+        × Waiting (byWindow lo (now (after .entry)) (now (marks .entry)) (now (seq .entry)) true (now (mm .entry)) (now (ml .entry))) r (now (work .exit)) ⌝ }
 {
     let from = put_bytes(out, end, &bam[at..at + 4]);
-    let values = record_rows::put_values(seq, after, marks, mm, ml, lo, out, from + 4);
-    put_word(out, from, values);
-    from + 4 + values
+    let put = record_rows::put_values(seq, after, marks, mm, ml, lo, out, from + 4, work);
+    put_word(out, from, put.values);
+    Pen {
+        end: from + 4 + put.values,
+        kept: put.text,
+        values: false,
+        text: put.text <= work.len(),
+    }
+}
+
+// Writes MM with the text that waits in the work row.
+fn copy_text(bam: &[u8], at: usize, work: &[u8], kept: usize, out: &mut [u8], end: usize) -> usize
+    requires { ⌜ (at + 4 ≤ length (now bam)) × (kept ≤ length (now work)) × (end + kept + 4 < 18446744073709551616) ⌝ }
+    ensures { λ r. ⌜ ((size : ℕ) → 4 ≤ size → Wrote (withText (take kept (now (work .entry))) (part (now (bam .entry)) at size) ∷ [])
+        end (now (out .entry)) r (now (out .exit))) ⌝ }
+{
+    let from = put_bytes(out, end, &bam[at..at + 3]);
+    let last = put_bytes(out, from, &work[0..kept]);
+    numbers::put(out, last, 0);
+    last + 1
+}
+
+// Writes ML with the values that wait in the work row.
+fn copy_array(bam: &[u8], at: usize, work: &[u8], kept: usize, out: &mut [u8], end: usize) -> usize
+    requires { ⌜ (at + 4 ≤ length (now bam)) × (kept ≤ length (now work)) × (kept ≤ 65536) × (end + kept + 8 < 18446744073709551616) ⌝ }
+    ensures { λ r. ⌜ ((size : ℕ) → 4 ≤ size → Wrote (withValues (take kept (now (work .entry))) (part (now (bam .entry)) at size) ∷ [])
+        end (now (out .entry)) r (now (out .exit))) ⌝ }
+{
+    let from = put_bytes(out, end, &bam[at..at + 4]);
+    put_word(out, from, kept);
+    put_bytes(out, from + 4, &work[0..kept])
+}
+
+// Writes the text of MM, edited with its ML: the text that waits, or else by a walk.
+fn put_text(
+    bam: &[u8],
+    at: usize,
+    mm: &[u8],
+    ml: &[u8],
+    seq: &[u8],
+    after: &[u8],
+    marks: &[u8],
+    lo: usize,
+    pen: Pen,
+    out: &mut [u8],
+    work: &mut [u8],
+) -> Pen
+    requires { ⌜ (at + 4 ≤ length (now bam)) × (pen .end + length (now mm) + 4 < 18446744073709551616) × (length (now seq) ≤ 16000)
+        × (length (now mm) ≤ 65536) × (length (now ml) ≤ 65536) ⌝ }
+    requires { ⌜ isDone (byWindow lo (now after) (now marks) (now seq) true (now mm) (now ml)) ≡ true ⌝ }
+    requires { ⌜ Waiting (byWindow lo (now after) (now marks) (now seq) true (now mm) (now ml)) pen (now work) ⌝ }
+    ensures { λ r. ⌜ ((size : ℕ) → 4 ≤ size → Wrote (withText
+        (textIn (byWindow lo (now (after .entry)) (now (marks .entry)) (now (seq .entry)) true (now (mm .entry)) (now (ml .entry))))
+        (part (now (bam .entry)) at size) ∷ []) (pen .end) (now (out .entry)) (r .end) (now (out .exit)))
+        × Waiting (byWindow lo (now (after .entry)) (now (marks .entry)) (now (seq .entry)) true (now (mm .entry)) (now (ml .entry))) r (now (work .exit)) ⌝ }
+{
+    if pen.text {
+        let end = copy_text(bam, at, work, pen.kept, out, pen.end);
+        return Pen {
+            end: end,
+            kept: pen.kept,
+            values: pen.values,
+            text: pen.text,
+        };
+    }
+    walk_text(bam, at, mm, ml, seq, after, marks, lo, out, pen.end, work)
+}
+
+// Writes ML with the values of the edited tag: those that wait, or else by a walk.
+fn put_array(
+    bam: &[u8],
+    at: usize,
+    mm: &[u8],
+    ml: &[u8],
+    seq: &[u8],
+    after: &[u8],
+    marks: &[u8],
+    lo: usize,
+    pen: Pen,
+    out: &mut [u8],
+    work: &mut [u8],
+) -> Pen
+    requires { ⌜ (at + 4 ≤ length (now bam)) × (pen .end + length (now ml) + 8 < 18446744073709551616) × (length (now seq) ≤ 16000)
+        × (length (now mm) ≤ 65536) × (length (now ml) ≤ 65536) ⌝ }
+    requires { ⌜ isDone (byWindow lo (now after) (now marks) (now seq) true (now mm) (now ml)) ≡ true ⌝ }
+    requires { ⌜ Waiting (byWindow lo (now after) (now marks) (now seq) true (now mm) (now ml)) pen (now work) ⌝ }
+    ensures { λ r. ⌜ ((size : ℕ) → 4 ≤ size → Wrote (withValues
+        (valuesIn (byWindow lo (now (after .entry)) (now (marks .entry)) (now (seq .entry)) true (now (mm .entry)) (now (ml .entry))))
+        (part (now (bam .entry)) at size) ∷ []) (pen .end) (now (out .entry)) (r .end) (now (out .exit)))
+        × Waiting (byWindow lo (now (after .entry)) (now (marks .entry)) (now (seq .entry)) true (now (mm .entry)) (now (ml .entry))) r (now (work .exit)) ⌝ }
+{
+    if pen.values {
+        let end = copy_array(bam, at, work, pen.kept, out, pen.end);
+        return Pen {
+            end: end,
+            kept: pen.kept,
+            values: pen.values,
+            text: pen.text,
+        };
+    }
+    walk_array(bam, at, mm, ml, seq, after, marks, lo, out, pen.end, work)
 }
 
 // Whether a field of this type is an integer.
@@ -176,74 +266,39 @@ fn put_length(bam: &[u8], at: usize, size: usize, bases: usize, out: &mut [u8], 
     put_bytes(out, end, &bam[at..at + size])
 }
 
-// Writes ML with the values of the edited tag: those that wait, or else by a walk of their own.
-fn put_array(
-    bam: &[u8],
-    at: usize,
-    mm: &[u8],
-    ml: &[u8],
-    seq: &[u8],
-    after: &[u8],
-    marks: &[u8],
-    lo: usize,
-    pen: Pen,
-    out: &mut [u8],
-    work: &[u8],
-) -> usize
-    requires { ⌜ (at + 4 ≤ length (now bam)) × (pen .end + length (now ml) + 8 < 18446744073709551616) × (length (now seq) ≤ 16000)
-        × (length (now mm) ≤ 65536) × (length (now ml) ≤ 65536) ⌝ }
-    requires { ⌜ isDone (byWindow lo (now after) (now marks) (now seq) true (now mm) (now ml)) ≡ true ⌝ }
-    requires { ⌜ Waiting (valuesIn (byWindow lo (now after) (now marks) (now seq) true (now mm) (now ml))) pen (now work) ⌝ }
-    ensures { λ r. ⌜ ((size : ℕ) → 4 ≤ size → Wrote (withValues
-        (valuesIn (byWindow lo (now (after .entry)) (now (marks .entry)) (now (seq .entry)) true (now (mm .entry)) (now (ml .entry))))
-        (part (now (bam .entry)) at size) ∷ []) (pen .end) (now (out .entry)) r (now (out .exit))) ⌝ }
-{
-    if pen.filled {
-        return put_waiting(bam, at, work, pen.kept, out, pen.end);
-    }
-    put_again(bam, at, mm, ml, seq, after, marks, lo, out, pen.end)
-}
-
-// Writes what becomes of a field by the plan's number for it, unless that is 3.
+// Writes what becomes of a field by the plan's number for it, unless that is 3 or 4: then neither MM nor ML matters.
 fn put_other(
     bam: &[u8],
     at: usize,
     size: usize,
     number: u8,
-    mm: &[u8],
-    ml: &[u8],
     bases: usize,
     seq: &[u8],
     after: &[u8],
     marks: &[u8],
     lo: usize,
-    pen: Pen,
     out: &mut [u8],
-    work: &[u8],
+    end: usize,
 ) -> usize
-    requires { ⌜ (at + size ≤ length (now bam)) × (4 ≤ size) × (pen .end + 2 * size < 18446744073709551616) × (length (now seq) ≤ 16000)
-        × (length (now mm) ≤ 65536) × (length (now ml) ≤ 65536) × (bases ≤ 16000) × (number ≡ 3 → ⊥) ⌝ }
-    requires { ⌜ isReady (means (byWindow lo (now after) (now marks) (now seq)) (now mm) (now ml) bases) number (part (now bam) at size) ≡ true ⌝ }
-    requires { ⌜ Waiting (valuesIn (byWindow lo (now after) (now marks) (now seq) true (now mm) (now ml))) pen (now work) ⌝ }
-    ensures { λ r. ⌜ Wrote (applied (queueBy (means (byWindow lo (now (after .entry)) (now (marks .entry)) (now (seq .entry)))
-        (now (mm .entry)) (now (ml .entry)) bases) number) (part (now (bam .entry)) at size)) (pen .end) (now (out .entry)) r (now (out .exit)) ⌝ }
+    requires { ⌜ (at + size ≤ length (now bam)) × (4 ≤ size) × (end + 2 * size < 18446744073709551616) × (length (now seq) ≤ 16000)
+        × (bases ≤ 16000) × (number ≡ 3 → ⊥) × (number ≡ 4 → ⊥) ⌝ }
+    requires { ⌜ isReady (means (byWindow lo (now after) (now marks) (now seq)) [] [] bases) number (part (now bam) at size) ≡ true ⌝ }
+    ensures { λ r. ⌜ Wrote (applied (queueBy (means (byWindow lo (now (after .entry)) (now (marks .entry)) (now (seq .entry))) [] [] bases) number)
+        (part (now (bam .entry)) at size)) end (now (out .entry)) r (now (out .exit)) ⌝ }
 {
     if number == 1 {
-        return pen.end;
+        return end;
     }
     if number == 6 {
-        return pen.end;
+        return end;
     }
     if number == 2 {
-        return put_alone(bam, at, size, seq, after, marks, lo, out, pen.end);
-    }
-    if number == 4 {
-        return put_array(bam, at, mm, ml, seq, after, marks, lo, pen, out, work);
+        return put_alone(bam, at, size, seq, after, marks, lo, out, end);
     }
     if number == 5 {
-        return put_length(bam, at, size, bases, out, pen.end);
+        return put_length(bam, at, size, bases, out, end);
     }
-    put_bytes(out, pen.end, &bam[at..at + size])
+    put_bytes(out, end, &bam[at..at + size])
 }
 
 // Writes what becomes of a field by the plan's number for it.
@@ -266,34 +321,34 @@ pub fn put_field(
     requires { ⌜ (at + size ≤ length (now bam)) × (4 ≤ size) × (pen .end + 2 * size < 18446744073709551616) × (length (now seq) ≤ 16000)
         × (length (now mm) ≤ 65536) × (length (now ml) ≤ 65536) × (bases ≤ 16000) ⌝ }
     requires { ⌜ isReady (means (byWindow lo (now after) (now marks) (now seq)) (now mm) (now ml) bases) number (part (now bam) at size) ≡ true ⌝ }
-    requires { ⌜ Waiting (valuesIn (byWindow lo (now after) (now marks) (now seq) true (now mm) (now ml))) pen (now work) ⌝ }
+    requires { ⌜ Waiting (byWindow lo (now after) (now marks) (now seq) true (now mm) (now ml)) pen (now work) ⌝ }
     ensures { λ r. ⌜ Wrote (applied (queueBy (means (byWindow lo (now (after .entry)) (now (marks .entry)) (now (seq .entry)))
         (now (mm .entry)) (now (ml .entry)) bases) number) (part (now (bam .entry)) at size)) (pen .end) (now (out .entry)) (r .end) (now (out .exit))
-        × Waiting (valuesIn (byWindow lo (now (after .entry)) (now (marks .entry)) (now (seq .entry)) true (now (mm .entry)) (now (ml .entry))))
-        r (now (work .exit)) ⌝ }
+        × Waiting (byWindow lo (now (after .entry)) (now (marks .entry)) (now (seq .entry)) true (now (mm .entry)) (now (ml .entry))) r (now (work .exit)) ⌝ }
 {
     if number == 3 {
-        return put_paired(bam, at, mm, ml, seq, after, marks, lo, out, pen.end, work);
+        return put_text(bam, at, mm, ml, seq, after, marks, lo, pen, out, work);
+    }
+    if number == 4 {
+        return put_array(bam, at, mm, ml, seq, after, marks, lo, pen, out, work);
     }
     let end = put_other(
         bam,
         at,
         size,
         number,
-        mm,
-        ml,
         bases,
         seq,
         after,
         marks,
         lo,
-        pen,
         out,
-        work,
+        pen.end,
     );
     Pen {
         end: end,
         kept: pen.kept,
-        filled: pen.filled,
+        values: pen.values,
+        text: pen.text,
     }
 }

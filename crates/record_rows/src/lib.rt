@@ -199,7 +199,7 @@ pub fn put_tag(
     }
 }
 
-// Writes the values of a tag that can be edited into the new record from an index on, as far as the row reaches, and returns how many there are.
+// Writes a tag that can be edited: its values into the new record from an index on, and its text to the front of another row, as far as the rows reach.
 pub fn put_values(
     seq: &[u8],
     after: &[u8],
@@ -209,16 +209,17 @@ pub fn put_values(
     lo: usize,
     out: &mut [u8],
     at: usize,
-) -> usize
+    work: &mut [u8],
+) -> Sizes
     requires { ⌜ (length (now seq) ≤ 16000) × (length (now mm) ≤ 65536) × (length (now ml) ≤ 65536) ⌝ }
     requires { ⌜ isDone (edited (windowEdit lo (now after) (now marks)) true (now seq) (now mm) (now ml)) ≡ true ⌝ }
     ensures { λ r. ⌜ ((t : Tag)
         → edited (windowEdit lo (now (after .entry)) (now (marks .entry))) true (now (seq .entry)) (now (mm .entry)) (now (ml .entry)) ≡ done t
-        → (r ≡ length (t .ml)) × (now (out .exit) ≡ sets (now (out .entry)) at (t .ml))) ⌝ }
-    ensures { λ r. ⌜ r ≤ length (now (ml .entry)) ⌝ }
+        → (r .text ≡ length (t .text)) × (r .values ≡ length (t .ml))
+        × (now (out .exit) ≡ sets (now (out .entry)) at (t .ml)) × (now (work .exit) ≡ sets (now (work .entry)) 0 (t .text))) ⌝ }
+    ensures { λ r. ⌜ (r .text ≤ length (now (mm .entry))) × (r .values ≤ length (now (ml .entry))) ⌝ }
 {
     let start = at_most(at, out.len());
-    let mut no_text: [u8; 0] = [];
     let edited = drafting::edit_groups(
         seq,
         after,
@@ -227,11 +228,14 @@ pub fn put_values(
         ml,
         lo,
         true,
-        &mut no_text,
+        work,
         &mut out[start..],
     );
     let Edited::To(end) = edited else {
-        return 0;
+        return Sizes { text: 0, values: 0 };
     };
-    end.kept
+    Sizes {
+        text: end.end,
+        values: end.kept,
+    }
 }

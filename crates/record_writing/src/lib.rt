@@ -51,7 +51,8 @@ pub fn put_fields(
     let mut pen = Pen {
         end: from,
         kept: 0,
-        filled: false,
+        values: false,
+        text: false,
     };
     while at < bam.len() {
         let size = record_fields::sizes::field_size(bam, at);

@@ -1,6 +1,6 @@
 -- `put_alone`: the name and the type, the edited text, and a NUL.
 -- Assumes nothing.
-use mathlib.Core.Path.{_≡_, _∙_, ap, refl}
+use mathlib.Core.Path.{_∙_, ap, refl}
 use Prim.Native.Nat.{ℕ, _+_, _-_, _≤_}
 use mathlib.Core.Bool.{false}
 use mathlib.Core.List.{List, []}
@@ -8,13 +8,11 @@ use native.Mathlib.Omega.{arith}
 use lib.ListN.{drop, length, take}
 use borrow.Author.Needs.{needs}
 use Rattle.lent.specs.Answers.{isDone}
-use Rattle.lent.specs.Outcome.{done}
 use Rattle.record_fields.specs.Spots.{part}
-use Rattle.record_pieces.proofs.PieceLaws.{tag-put, text-part, text-written}
+use Rattle.record_pieces.proofs.PieceLaws.{done-in, text-part, text-written}
 use Rattle.record_pieces.specs.Pens.{textIn}
 use Rattle.record_tags.specs.Plans.{byWindow}
 use Rattle.record_tags.specs.Values.{textOf}
-use Rattle.samtags.specs.Writing.{Tag}
 use Rattle.record_pieces.proofs.put_alone.Statement.{statement}
 use Rattle.record_pieces.proofs.put_alone.Tie as tie
 
@@ -90,8 +88,7 @@ returns c =
     let o = byWindow (a .lo) (a .after .now) (a .marks .now) (a .seq .now) false (textOf (part (a .bam .now) (a .at) (a .size))) [] in
     let l = v .last .1 .1 .1 .1 .1 .1 .1 in
     let same = ap (λ (x : List ℕ). byWindow (a .lo) (a .after .now) (a .marks .now) (a .seq .now) false x []) text in
-    let t = tag-put o (v .result .text) (v .result .values) (p .result) (p .last .0) (l .0) [] (l .1 .1 .0) (s .pre .1 .0)
-    (λ (t : Tag) (e : o ≡ done t). v .ensures .0 t (same ∙ e)) in
+    let t = v .ensures .0 _ (same ∙ done-in o (s .pre .1 .0)) in
     text-written (a .bam .now) (a .out .now) (p .last .0) (l .0) (z .last .0) (a .at) (a .size) (a .end) (p .result) (a .at + 3 - a .at) (omega arith) (omega arith)
     (p .ensures .0) (p .ensures .1) (textIn o) (v .result .text) (p .result + v .result .text + 1) (omega arith) (t .0) (t .2) (z .ensures) refl
 

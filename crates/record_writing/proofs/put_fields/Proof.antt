@@ -3,7 +3,7 @@
 -- Assumes nothing.
 use mathlib.Core.Path.{_≡_, _∙_, ap, refl, sym}
 use Prim.Native.Nat.{ℕ, _+_, _-_, _*_, _≤_, _<_}
-use mathlib.Core.Bool.{true, false}
+use mathlib.Core.Bool.{true}
 use native.Mathlib.Omega.{arith}
 use lib.ListN.{drop, getD, length, length-set}
 use lib.Seq.{length-sets}
@@ -11,7 +11,8 @@ use borrow.Author.Needs.{needs}
 use Rattle.lent.specs.Answers.{isDone}
 use Rattle.record_fields.specs.Fields.{fields, fieldsOf, joined}
 use Rattle.record_fields.specs.Spots.{part}
-use Rattle.record_pieces.specs.Pens.{Waiting, valuesIn}
+use Rattle.record_pieces.proofs.PieceLaws.{none-waits}
+use Rattle.record_pieces.specs.Pens.{Waiting, textIn, valuesIn}
 use Rattle.record_tags.specs.Changes.{applied}
 use Rattle.record_tags.specs.Plans.{Means, Ready, byWindow, means, nextOf, queueBy}
 use Rattle.record_writing.proofs.WalkLaws.{Onward, ahead, field-fits, onward-end, turn-done, turn-end, turn-next, turn-onward, turn-ready, window-shrinks}
@@ -23,7 +24,7 @@ Inv-loop bam from mm ml bases seq after marks lo out₀ work₀ left₀ at₀ pe
     (at ≤ length bam) × (isDone (fields (drop at bam)) ≡ true)
     × Ready (means (byWindow lo after marks seq) mm ml bases) left (fieldsOf (drop at bam))
     × (6 ≡ length left) × (pen .end ≤ 2 * at)
-    × Waiting (valuesIn (byWindow lo after marks seq true mm ml)) pen work
+    × Waiting (byWindow lo after marks seq true mm ml) pen work
     × (length out ≡ length out₀) × (length work ≡ length work₀)
     × Onward (ahead (means (byWindow lo after marks seq) mm ml bases) left₀ bam from) from out₀
     (ahead (means (byWindow lo after marks seq) mm ml bases) left bam at) (pen .end) out
@@ -39,13 +40,15 @@ meant s =
 
 loop-holds : tie.Need-loop-holds Inv-loop μ-loop
 loop-holds c =
-    let s = c .before .before .before .before .before .before .before .before in (
+    let s = c .before .before .before .before .before .before .before .before in
+    let a = s .args in
+    let tag = byWindow (a .lo) (a .after .now) (a .marks .now) (a .seq .now) true (a .mm .now) (a .ml .now) in (
       s .pre .0 .0,
       s .pre .1 .0,
       s .pre .1 .1,
       omega arith,
       omega arith,
-      λ (t : false ≡ true). let z : _≡_ {A = ℕ} 0 1 = cc in absurd (omega arith),
+      (none-waits (valuesIn tag) (a .work .now) 0, none-waits (textIn tag) (a .work .now) 0),
       refl,
       refl,
       (refl, refl),

@@ -1,4 +1,4 @@
--- `put_waiting`: the name and the type, the count, and the values that wait.
+-- `copy_array`: the name and the type, the count, and the values that wait.
 -- Assumes nothing.
 use mathlib.Core.Path.{_≡_, _∙_, ap, sym}
 use Prim.Native.Nat.{ℕ, _+_, _-_, _≤_}
@@ -7,8 +7,8 @@ use lib.ListN.{length, take}
 use lib.Seq.{length-take-le, sets}
 use borrow.Author.Needs.{needs}
 use Rattle.record_pieces.proofs.PieceLaws.{values-written}
-use Rattle.record_pieces.proofs.put_waiting.Statement.{statement}
-use Rattle.record_pieces.proofs.put_waiting.Tie as tie
+use Rattle.record_pieces.proofs.copy_array.Statement.{statement}
+use Rattle.record_pieces.proofs.copy_array.Tie as tie
 
 add-put-bytes : tie.Need-add-put-bytes
 add-put-bytes c = search needs
@@ -59,8 +59,8 @@ returns c =
     (sym (length-take-le (a .kept) (a .work .now) (omega arith))) (w .ensures) (v .ensures .1 ∙ ap (λ (n : ℕ). sets (w .last .0) (p .result + 4) (take n (a .work .now))) k)
     (v .ensures .0 ∙ ap (λ (n : ℕ). p .result + 4 + length (take n (a .work .now))) k)
 
-pub put-waiting-spec : {M : Type 1} → statement M
-put-waiting-spec =
+pub copy-array-spec : {M : Type 1} → statement M
+copy-array-spec =
     tie.close
     (tie.spec
     add-put-bytes

@@ -1,15 +1,15 @@
--- `put_paired`: the name and the type, the edited text, and a NUL; the values wait in the work row if it is long enough.
+-- `walk_text`: the name and the type, the edited text, and a NUL; the values wait in the work row if it is long enough.
 -- Assumes nothing.
 use mathlib.Core.Path.{refl}
 use Prim.Native.Nat.{ℕ, _+_, _-_, _≤_}
 use mathlib.Core.Bool.{true}
 use native.Mathlib.Omega.{arith}
 use borrow.Author.Needs.{needs}
-use Rattle.record_pieces.proofs.PieceLaws.{tag-put, text-written, waiting-front}
+use Rattle.record_pieces.proofs.PieceLaws.{done-in, none-waits, now-waits, text-written}
 use Rattle.record_pieces.specs.Pens.{textIn, valuesIn}
 use Rattle.record_tags.specs.Plans.{byWindow}
-use Rattle.record_pieces.proofs.put_paired.Statement.{statement}
-use Rattle.record_pieces.proofs.put_paired.Tie as tie
+use Rattle.record_pieces.proofs.walk_text.Statement.{statement}
+use Rattle.record_pieces.proofs.walk_text.Tie as tie
 
 add-put-bytes : tie.Need-add-put-bytes
 add-put-bytes c = search needs
@@ -53,15 +53,15 @@ returns c =
     let z = c .before .before .before .put in
     let o = byWindow (a .lo) (a .after .now) (a .marks .now) (a .seq .now) true (a .mm .now) (a .ml .now) in
     let l = v .last .1 .1 .1 .1 .1 .1 .1 in
-    let t = tag-put o (v .result .text) (v .result .values) (p .result) (p .last .0) (l .0) (a .work .now) (l .1 .1 .0) (s .pre .1) (v .ensures .0) in (
+    let t = v .ensures .0 _ (done-in o (s .pre .1)) in (
       λ (size : ℕ) (h : 4 ≤ size).
           text-written (a .bam .now) (a .out .now) (p .last .0) (l .0) (z .last .0) (a .at) size (a .end) (p .result) (a .at + 3 - a .at) h (omega arith)
           (p .ensures .0) (p .ensures .1) (textIn o) (v .result .text) (p .result + v .result .text + 1) (omega arith) (t .0) (t .2) (z .ensures) refl,
-      λ fits. (t .1, waiting-front (valuesIn o) (a .work .now) (l .1 .1 .0) (v .result .values) (t .3) (t .1) fits),
+      (now-waits (valuesIn o) (a .work .now) (l .1 .1 .0) (v .result .values) (t .3) (t .1), none-waits (textIn o) (l .1 .1 .0) (v .result .values)),
     )
 
-pub put-paired-spec : {M : Type 1} → statement M
-put-paired-spec =
+pub walk-text-spec : {M : Type 1} → statement M
+walk-text-spec =
     tie.close
     (tie.spec
     add-put-bytes
