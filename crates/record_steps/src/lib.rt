@@ -37,7 +37,7 @@ fn unpack_seq(bam: &[u8], at: usize, n: usize, turned: bool, row: &mut [u8])
     packed_rows::unpack_row(&bam[at..end], n, turned, row);
 }
 
-// Masking. `first` is for SEQ before, `second` for SEQ now, `work` for the values of an edited ML; all with any contents.
+// Masking. `first` is for SEQ before, `second` for SEQ now, `work` for what waits of an edited tag; all with any contents.
 pub fn mask_with(
     bam: &[u8],
     head: Head,
@@ -83,7 +83,7 @@ pub fn mask_with(
     )
 }
 
-// Dropping. `row` is for SEQ, with any contents, `marks` for the places, without a mark yet, `work` for the values of an edited ML.
+// Dropping. `row` is for SEQ, with any contents, `marks` for the places, without a mark yet, `work` for what waits of an edited tag.
 pub fn drop_with(
     bam: &[u8],
     head: Head,
