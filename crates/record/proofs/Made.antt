@@ -7,7 +7,6 @@ use mathlib.Core.List.{List}
 use lib.ListN.{length, take}
 use Rattle.lent.proofs.Leaves.{front-is-part}
 use Rattle.lent.proofs.Outcome.{on-done-inv}
-use Rattle.lent.specs.Filled.{leaves}
 use Rattle.lent.specs.Outcome.{Outcome, done}
 use Rattle.record_tags.specs.Records.{Finished, cutRecord, dropRecord, maskRecord}
 use Rattle.record_writing.specs.Answers.{Left, leavesRecord, left, recordSays}

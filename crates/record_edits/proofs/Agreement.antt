@@ -1,24 +1,23 @@
 -- The plan is carried out as the definition of the edit says: for the first field of each name, and for those after it.
 -- Assumes nothing.
 use mathlib.Core.Path.{_≡_, refl, sym, ap, _∙_, subst}
-use Prim.Native.Nat.{ℕ, zero, suc, _+_, _≤_, _<_}
+use Prim.Native.Nat.{ℕ, zero, suc, _+_, _≤_}
 use native.Mathlib.Omega.{arith}
-use mathlib.Core.Bool.{Bool, true, false, cond, _&&_, _||_}
-use mathlib.Core.List.{List, [], _∷_, _++_}
-use mathlib.Core.Option.{Option, none, some}
+use mathlib.Core.Bool.{Bool, true, false, cond, _||_}
+use mathlib.Core.List.{List, [], _∷_}
+use mathlib.Core.Option.{none, some}
 use lib.Dec.{leb, ltb, eqb}
 use lib.ListN.{length, length-drop, getD}
 use borrow.Author.Tests.{eqb-true, eqb-false, leb-true, le-leb, le-ltb, lt-ltb, ne-eqb}
-use Rattle.lent.proofs.Tests.{and-true, and-true-l, and-true-r, by-test}
+use Rattle.lent.proofs.Tests.{and-true, by-test}
 use Rattle.lent.specs.Answers.{isDone}
 use Rattle.lent.specs.Lists.{every, isEmpty}
-use Rattle.lent.specs.Outcome.{Outcome}
 use Rattle.record_edits.proofs.PlanIs.{FateIs, alone-it, guarded-done, paired-it, refused-it, untouched, alone-agrees, alone-later, fate-is, later-none, ml-agrees, mm-agrees, mn-same}
 use Rattle.record_fates.specs.Fates.{aloneFate, arrayFate, guarded, lengthFate, pairFate, planOf}
 use Rattle.record_fields.specs.Fields.{Field, firstNamed}
 use Rattle.record_tags.proofs.GoneLaws.{letsGo, none-go, some-go}
 use Rattle.record_tags.proofs.GrowthLaws.{length-text}
-use Rattle.record_tags.proofs.PlanLaws.{Agree, same-changed}
+use Rattle.record_tags.proofs.PlanLaws.{same-changed}
 use Rattle.record_tags.specs.Changes.{Change, Changes, TagEdit, applied, changed, editing, rest}
 use Rattle.record_tags.specs.Plans.{Means, Ready, isReady, means, planned, queueBy}
 use Rattle.record_tags.specs.Values.{isByteArray, isText, textOf, valuesOf}

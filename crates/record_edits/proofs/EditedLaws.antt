@@ -1,12 +1,12 @@
 -- What an edit of an opened record needs and gives: the fields that were noted are those of the definition, the plan can be carried out, and the record that
 -- it writes is the one that the definition says.
 -- Assumes nothing.
-use mathlib.Core.Path.{_≡_, refl, sym, ap, _∙_, subst}
-use Prim.Native.Nat.{ℕ, _+_, _-_, _≤_, _<_}
+use mathlib.Core.Path.{_≡_, sym, ap, _∙_, subst}
+use Prim.Native.Nat.{ℕ, _+_, _≤_, _<_}
 use native.Mathlib.Omega.{arith}
 use mathlib.Core.Bool.{Bool, true, false, cond, _&&_, _||_}
 use mathlib.Core.List.{List, [], _∷_, _++_}
-use mathlib.Core.Option.{Option, none, some}
+use mathlib.Core.Option.{none, some}
 use lib.Dec.{leb, ltb, eqb}
 use lib.ListN.{length, length-drop, getD, take, drop}
 use borrow.Author.Tests.{eqb-true, leb-true, le-leb}
@@ -15,7 +15,7 @@ use Rattle.lent.proofs.Tests.{and-true-l, and-true-r, by-test}
 use Rattle.lent.specs.Answers.{isDone}
 use Rattle.lent.specs.Lists.{every, isEmpty}
 use Rattle.record_edits.proofs.Agreement.{plan-ready, plan-went, planned-is}
-use Rattle.record_edits.proofs.Removal.{allGo, removal-is, removal-ready, removal-went}
+use Rattle.record_edits.proofs.Removal.{allGo, removal-is, removal-went}
 use Rattle.record_edits.specs.Finish.{finishedFrom}
 use Rattle.record_fates.proofs.FateLaws.{field-least, first-sound, part-length}
 use Rattle.record_fates.specs.Fates.{aloneFate, guarded, isSound, pairFate, planOf}
@@ -27,7 +27,7 @@ use Rattle.record_fields.specs.Spots.{Spots, part}
 use Rattle.record_tags.proofs.GrowthLaws.{length-text}
 use Rattle.record_tags.specs.Changes.{TagEdit, changed, editing, isTagged, removal}
 use Rattle.record_tags.specs.Plans.{Means, Ready, means, planned}
-use Rattle.record_tags.specs.Records.{Finished, arrayFits, finishedWith, inDomain, textFits}
+use Rattle.record_tags.specs.Records.{arrayFits, finishedWith, inDomain, textFits}
 use Rattle.record_tags.specs.Values.{isByteArray, isText, textOf, valuesOf}
 
 pub each-long : (bytes : List ℕ) → isDone (fields bytes) ≡ true → every (λ (f : Field). leb 4 (length f)) (fieldsOf bytes) ≡ true

@@ -1,23 +1,19 @@
 -- The plan that the fates give is what the definition of the edit says, field by field.
 -- Assumes nothing.
-use mathlib.Core.Path.{_≡_, refl, sym, ap, _∙_, subst}
-use Prim.Native.Nat.{ℕ, suc, _+_, _≤_, _<_}
+use mathlib.Core.Path.{_≡_, refl, sym, ap, _∙_}
+use Prim.Native.Nat.{ℕ}
 use native.Mathlib.Omega.{arith}
-use mathlib.Core.Bool.{Bool, true, false, cond, _&&_, _||_}
+use mathlib.Core.Bool.{Bool, true, false, cond, _&&_}
 use mathlib.Core.List.{List, [], _∷_, _++_}
-use mathlib.Core.Option.{Option, none, some}
-use lib.Dec.{leb, eqb}
-use lib.ListN.{length, getD}
-use borrow.Author.Tests.{eqb-true, eqb-false}
-use Rattle.lent.proofs.Tests.{and-true-l, and-true-r, by-test}
+use mathlib.Core.Option.{none, some}
+use Rattle.lent.proofs.Tests.{by-test}
 use Rattle.lent.specs.Answers.{isDone}
-use Rattle.lent.specs.Lists.{every, isEmpty}
+use Rattle.lent.specs.Lists.{isEmpty}
 use Rattle.lent.specs.Outcome.{Outcome, refused, done, need}
-use Rattle.record_fates.specs.Fates.{aloneFate, arrayFate, guarded, lengthFate, pairFate, planOf}
-use Rattle.record_fields.specs.Fields.{Field, firstNamed}
-use Rattle.record_tags.proofs.PlanLaws.{Agree}
-use Rattle.record_tags.specs.Changes.{Change, Changes, TagEdit, aloneEdited, applied, editing, goes, lengthSet, lengthSets, orGoes, refuses, rest, withML}
-use Rattle.record_tags.specs.Plans.{Means, means, planned, queueBy}
+use Rattle.record_fates.specs.Fates.{aloneFate, arrayFate, guarded, lengthFate, pairFate}
+use Rattle.record_fields.specs.Fields.{Field}
+use Rattle.record_tags.specs.Changes.{TagEdit, aloneEdited, applied, goes, lengthSets, orGoes, refuses, rest, withML}
+use Rattle.record_tags.specs.Plans.{Means, means, queueBy}
 use Rattle.record_tags.specs.Values.{isByteArray, isText, textOf, valuesOf, withText, withValues}
 use Rattle.samtags.specs.Writing.{Tag}
 

@@ -1,7 +1,7 @@
 -- The plan that removes the first field of each of the five names.
 -- Assumes nothing.
 use mathlib.Core.Path.{_≡_, refl, sym, ap, _∙_}
-use Prim.Native.Nat.{ℕ, _≤_, _<_}
+use Prim.Native.Nat.{ℕ, _≤_}
 use native.Mathlib.Omega.{arith}
 use mathlib.Core.Bool.{Bool, true, false, not, _||_}
 use mathlib.Core.List.{List, [], _∷_}
@@ -9,12 +9,12 @@ use lib.Dec.{leb, ltb, eqb}
 use lib.ListN.{length, getD}
 use borrow.Author.Tests.{le-ltb, lt-ltb, ne-eqb, not-true}
 use Rattle.lent.proofs.Tests.{by-test}
-use Rattle.lent.specs.Lists.{every, isEmpty}
+use Rattle.lent.specs.Lists.{isEmpty}
 use Rattle.record_edits.proofs.Agreement.{by-name, past-plan}
 use Rattle.record_fields.specs.Fields.{Field, firstNamed}
 use Rattle.record_tags.proofs.GoneLaws.{letsGo, some-go}
 use Rattle.record_tags.specs.Changes.{Changes, changed, isTagged, removal}
-use Rattle.record_tags.specs.Plans.{Means, Ready, growth, isReady, planned, queueBy}
+use Rattle.record_tags.specs.Plans.{Means, Ready, isReady, planned, queueBy}
 
 abbrev pub allGo : List ℕ
 allGo = 1 ∷ 1 ∷ 1 ∷ 1 ∷ 1 ∷ 0 ∷ []

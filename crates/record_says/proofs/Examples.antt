@@ -14,14 +14,15 @@ use Rattle.packed.specs.Stored.{inRead}
 use Rattle.record_fields.specs.Bam.{isReverse, seqLength}
 use Rattle.record_fields.specs.Fields.{Field, MM, fieldsOf, firstNamed, joined, nameOf, am}
 use Rattle.record_rows.specs.Letters.{turnedLetters}
+use Rattle.record_says.proofs.Accepted.{cut-accepted, drop-accepted, drop-alone-accepted, mask-accepted}
 use Rattle.record_says.proofs.Edited.{cut-lists, drop-lists, mask-lists, clean-cut-lists, drop-alone-lists}
 use Rattle.record_says.proofs.KeepsMM.{mask-keeps, cut-keeps}
 use Rattle.record_says.proofs.LengthAgrees.{cut-length}
 use Rattle.record_says.proofs.Went.{went-is-gone}
-use Rattle.record_says.specs.Says.{ListsOver, beginsAt, dropped, fieldsIn, fiveNames, isGone, keeps, mnOf, noneTwice, readSeq, storedSeq, AloneListsOver}
+use Rattle.record_says.specs.Says.{AloneListsOver, AloneRewritten, ListsOver, Rewritten, beginsAt, dropped, fieldsIn, fiveNames, isGone, keeps, mmOf, mnOf, noneTwice, readPlaces, readSeq, storedSeq}
 use Rattle.record_tags.specs.Records.{cutRecord, dropRecord, finishedWith, maskRecord, windowIn, startOf}
-use Rattle.record_tags.specs.Values.{disagrees}
-use Rattle.samtags.proofs.Kept.{callsHeldIn}
+use Rattle.record_tags.specs.Values.{disagrees, isText}
+use Rattle.samtags.proofs.Kept.{callsHeldIn, withoutCallsAt}
 use Rattle.samtags.proofs.Masking.{differsByN, unmaskedCalls}
 use Rattle.samtags.specs.Bytes.{ascii}
 use Rattle.samtags.specs.Edits.{sameBytes}
@@ -307,3 +308,21 @@ alone-promise : AloneListsOver (readSeq aloneTo) am aloneTo (bareCalls (bareCall
 alone-promise =
     drop-alone-lists am refl aloneFrom 200 (finishedWith false aloneTo) (bareCalls (bareCallAt 1 ∷ bareCallAt 2 ∷ [])) (alone-met .1) (2 ∷ []) (alone-met .0)
     alone-listed
+
+-- the same tags, of which only the type is known before: the reader accepted each of them
+texts-met : (isText (mmOf droppedFrom) ≡ true) × (isText (mmOf maskedFrom) ≡ true) × (isText (mmOf cutFrom) ≡ true)
+unfolding fieldsOf firstNamed pack
+texts-met = (refl, refl, refl)
+
+drop-rewritten : Rewritten (readSeq droppedFrom) droppedFrom droppedTo (withoutCallsAt (readPlaces droppedFrom (2 ∷ [])))
+drop-rewritten = drop-accepted droppedFrom (2 ∷ []) 200 (finishedWith false droppedTo) (drop-met .0) (texts-met .0) (drop-met .1) refl
+
+mask-rewritten : Rewritten (turnedLetters (isReverse maskedFrom) (ascii "ACCA")) maskedFrom maskedInto (unmaskedCalls (readSeq maskedFrom))
+mask-rewritten = mask-accepted maskedFrom (ascii "ACCA") 200 (finishedWith false maskedInto) (mask-met .0) (texts-met .1) mask-kept (mask-met .2) (mask-met .3)
+
+cut-rewritten : (lo : ℕ) × (beginsAt cutFrom (ascii "TGGT") true (some 1) ≡ some lo)
+    × Rewritten (turnedLetters true (ascii "TGGT")) cutFrom cutInto (callsHeldIn lo (readSeq cutFrom))
+cut-rewritten = cut-accepted cutFrom (ascii "TGGT") true (some 1) 200 (finishedWith false cutInto) (cut-met .0) (texts-met .2) cut-kept (cut-met .2)
+
+alone-rewritten : AloneRewritten (readSeq aloneFrom) am aloneFrom aloneTo (withoutCallsAt (readPlaces aloneFrom (2 ∷ [])))
+alone-rewritten = drop-alone-accepted am refl aloneFrom 200 (finishedWith false aloneTo) (alone-listed .is-text) (alone-met .1) (2 ∷ []) (alone-met .0) refl

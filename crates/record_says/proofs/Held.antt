@@ -10,7 +10,7 @@ use lib.Dec.{eqb}
 use lib.ListN.{List·getD-append, length, take, drop, length-append}
 use lib.Seq.{drop-at, getD-take, length-take-le, take-append-seam}
 use borrow.Author.Tests.{eq-eqb, eqb-true, lt-ltb, not-true}
-use Rattle.lent.proofs.Outcome.{need-rest}
+use Rattle.lent.proofs.Outcome.{need-rest, need-test}
 use Rattle.lent.proofs.Tests.{and-true, and-true-l, and-true-r, by-test}
 use Rattle.lent.specs.Lists.{isEmpty}
 use Rattle.lent.specs.Outcome.{Outcome, done, need, refused}
@@ -148,6 +148,40 @@ alone-tagged fs k a t =
 
 -- ---- an edit of MM, with its ML
 
+-- a record whose MM is a text is tagged
+pub mm-tagged : (bam : List ℕ) → isText (mmOf bam) ≡ true → isTagged (fieldsIn bam) ≡ true
+unfolding isTagged
+mm-tagged bam text = rw (text-there (mmOf bam) text)
+
+module _ {n : ℕ} {bam : List ℕ} {new : List Field} {r : Finished} (made : Made n bam new r) (text : isText (mmOf bam) ≡ true)
+    (kept : keeps MM bam (r .bytes) ≡ true) (edit : TagEdit) (tidy : Tidy edit) (m : ℕ) (len : Option ℕ)
+    (lengths : (b : Bool) → Lengths m (cond b (changes.goes ∷ []) [] ++ lengthSets len)) (is : new ≡ changed (editing edit len (fieldsIn bam)) (fieldsIn bam)) where
+  mm-goes : (q : Refusal) → withML edit (mmOf bam) (mlOf bam) ≡ refused q → applied (editing edit len (fieldsIn bam) MM) (mmOf bam) ≡ []
+  unfolding editing
+  mm-goes q e = rw (text, e)
+
+  -- MM was not removed, so its edit was done
+  pub was-done : (t : Tag) × (withML edit (mmOf bam) (mlOf bam) ≡ done t)
+  was-done = by (withML edit (mmOf bam) (mlOf bam)) refl
+    where
+      by : (o : Outcome Tag) → withML edit (mmOf bam) (mlOf bam) ≡ o → (t : Tag) × (withML edit (mmOf bam) (mlOf bam) ≡ done t)
+      by (refused q) e =
+          absurd (named-stays made MM text kept m (editing edit len (fieldsIn bam))
+          (editing-sound edit tidy (fieldsIn bam) (old-fields made) (made .fits) m len lengths) is (mm-goes q e))
+      by (done t) e = (t, e)
+
+  -- and its ML, if there is one, is an array of bytes
+  pub was-a-tag : hasTag bam ≡ true
+  unfolding withML
+  was-a-tag =
+      let (t, e) = was-done in
+      and-true (isText (mmOf bam)) (isEmpty (mlOf bam) || isByteArray (mlOf bam)) text
+      (by-test (isEmpty (mlOf bam))
+      (λ q. rw q)
+      (λ q.
+      let e′ : need (isByteArray (mlOf bam)) 8 (edit true (textOf (mmOf bam)) (valuesOf (mlOf bam))) ≡ done t = rw q at e in
+      rw (need-test (isByteArray (mlOf bam)) 8 (edit true (textOf (mmOf bam)) (valuesOf (mlOf bam))) t e′) (or-true (isEmpty (mlOf bam)))))
+
 module _ {n : ℕ} {bam : List ℕ} {new : List Field} {r : Finished} (made : Made n bam new r) (tag : hasTag bam ≡ true)
     (kept : keeps MM bam (r .bytes) ≡ true) where
   abbrev fs : List Field
@@ -227,20 +261,10 @@ module _ {n : ℕ} {bam : List ℕ} {new : List Field} {r : Finished} (made : Ma
         ml = λ h. let q = not-true (isEmpty (mlOf bam)) h in ap valuesOf (ml-new q) ∙ values-held (mlOf bam) (ml-long q) (t .ml);
       }
 
-    mm-gone : (q : Refusal) → withML edit (mmOf bam) (mlOf bam) ≡ refused q → applied (editing edit len fs MM) (mmOf bam) ≡ []
-    unfolding editing
-    mm-gone q e = rw (mm-text, e)
-
     -- MM was edited, and the new record holds the edited tag
     pub held : (t : Tag) × (edit (hasML bam) (textOf (mmOf bam)) (valuesOf (mlOf bam)) ≡ done t) × Holds bam (r .bytes) t
-    held = by (withML edit (mmOf bam) (mlOf bam)) refl
-      where
-        by : (o : Outcome Tag) → withML edit (mmOf bam) (mlOf bam) ≡ o
-            → (t : Tag) × (edit (hasML bam) (textOf (mmOf bam)) (valuesOf (mlOf bam)) ≡ done t) × Holds bam (r .bytes) t
-        by (refused q) e = absurd (named-stays made MM mm-text kept m (editing edit len fs) sound is (mm-gone q e))
-        by (done t) e = (t, edit-is t e, holds t e)
+    held = let (t, e) = was-done made mm-text kept edit tidy m len lengths is in (t, edit-is t e, holds t e)
 
   -- there is a tag
   pub is-tagged : isTagged fs ≡ true
-  unfolding isTagged
-  is-tagged = rw mm-there
+  is-tagged = mm-tagged bam mm-text

@@ -24,7 +24,7 @@ use Rattle.record_rows.specs.Letters.{turnedLetters}
 use Rattle.record_says.proofs.Listed.{drop-is, no-place, no-place-turned}
 use Rattle.record_says.proofs.Edits.{Tidy, cut-tidy, drop-tidy, editing-sound, first-is, lengths-none, lengths-some, mask-tidy}
 use Rattle.record_says.proofs.Firsts.{first-counted}
-use Rattle.record_says.proofs.Held.{empty-is, held, not-removed, text-there}
+use Rattle.record_says.proofs.Held.{empty-is, held, mm-tagged, not-removed, text-there}
 use Rattle.record_says.proofs.Made.{Made, cut-made, drop-made, fields-are, mask-made, old-fields}
 use Rattle.record_says.proofs.Pieces.{Lengths, field-long}
 use Rattle.record_says.specs.Says.{ListsOver, beginsAt, fieldsIn, hasML, hasTag, keeps, mlOf, mmOf, mnOf, readPlaces, readSeq, storedSeq, times}
@@ -59,8 +59,7 @@ module _ {n : ℕ} {bam : List ℕ} {new : List Field} {r : Finished} (made : Ma
   mm-is-there = text-there (mmOf bam) mm-is-text
 
   pub tagged : isTagged (fieldsIn bam) ≡ true
-  unfolding isTagged
-  tagged = rw mm-is-there
+  tagged = mm-tagged bam mm-is-text
 
   pub with-is : (edit : TagEdit) (t : Tag) → edit (hasML bam) (textOf (mmOf bam)) (valuesOf (mlOf bam)) ≡ done t → withML edit (mmOf bam) (mlOf bam) ≡ done t
   unfolding withML

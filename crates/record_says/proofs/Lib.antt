@@ -11,6 +11,7 @@ pub mod Firsts
 pub mod Held
 pub mod Listed
 pub mod Edited
+pub mod Accepted
 pub mod KeepsMM
 pub mod LengthAgrees
 pub mod Examples

@@ -106,7 +106,7 @@ module _ (bam places : List ℕ) (room : ℕ) (r : Finished) (ls : List Listing)
 
 -- ---- a mask
 
-mask-is : (reverse : Bool) (n : ℕ) (packed before : List ℕ) (fs : List Field) → sameBytes before (unpack n packed) ≡ false → isTagged fs ≡ true
+pub mask-is : (reverse : Bool) (n : ℕ) (packed before : List ℕ) (fs : List Field) → sameBytes before (unpack n packed) ≡ false → isTagged fs ≡ true
     → (maskFields reverse n packed before fs ≡ changed removal fs → ⊥)
     → maskFields reverse n packed before fs ≡ changed (editing (maskEdit (turnedLetters reverse before) (inRead reverse n packed)) none fs) fs
 unfolding maskFields
@@ -262,7 +262,7 @@ module _ (bam before : List ℕ) (before-reverse : Bool) (start : Option ℕ) (r
 
 -- ---- am and bm, which are edited without ML
 
-alone-low : (k : ℕ) → isAlone k ≡ true → k < 5
+pub alone-low : (k : ℕ) → isAlone k ≡ true → k < 5
 alone-low k a =
     by-test (eqb k am)
     (λ e. omega (arith, eqb-true k am e))

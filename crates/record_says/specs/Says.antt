@@ -3,7 +3,7 @@
 use mathlib.Core.Path.{_≡_}
 use Prim.Native.Nat.{ℕ}
 use mathlib.Core.Bool.{Bool, true, false, not, _&&_, _||_}
-use mathlib.Core.List.{List, [], _∷_}
+use mathlib.Core.List.{List, [], _∷_, map}
 use mathlib.Core.Option.{Option}
 use lib.Dec.{leb, eqb}
 use lib.ListN.{length, take, drop}
@@ -120,10 +120,23 @@ pub record ListsOver (seq bam : List ℕ) (ls : List Listing) : Type 0 where
   pub tagged : hasTag bam ≡ true
   pub listed : tagLists seq bam ≡ done ls
 
+-- A tag was edited: the reader accepted the old one over SEQ as it was, and accepts the new one over SEQ as it is now. What a group lists now is f of what it
+-- listed.
+pub record Rewritten (seq old new : List ℕ) (f : Listing → Listing) : Type 0 where
+  pub listed : List Listing
+  pub before : ListsOver seq old listed
+  pub after : ListsOver (readSeq new) new (map f listed)
+
 -- am or bm is a text, which the reader accepts without ML over a SEQ in read orientation, and which lists this.
 pub record AloneListsOver (seq : List ℕ) (k : ℕ) (bam : List ℕ) (ls : List Listing) : Type 0 where
   pub is-text : isText (firstNamed k (fieldsIn bam)) ≡ true
   pub listed : lists false seq (textOf (firstNamed k (fieldsIn bam))) [] ≡ done ls
+
+-- am or bm was edited, as MM above
+pub record AloneRewritten (seq : List ℕ) (k : ℕ) (old new : List ℕ) (f : Listing → Listing) : Type 0 where
+  pub listed : List Listing
+  pub before : AloneListsOver seq k old listed
+  pub after : AloneListsOver (readSeq new) k new (map f listed)
 
 -- the names of the tags that are edited without ML
 abbrev pub isAlone : ℕ → Bool

@@ -1,13 +1,12 @@
 -- The three calls on a record that was opened, case by case.
 -- Assumes nothing.
-use mathlib.Core.Path.{_≡_, refl, sym, ap, _∙_, subst}
-use Prim.Native.Nat.{ℕ, _+_, _≤_, _<_}
-use mathlib.Core.Bool.{Bool, true, false, cond, not, _&&_, _||_}
-use mathlib.Core.List.{List, [], _∷_, _++_}
-use mathlib.Core.Option.{Option, none, some}
+use mathlib.Core.Path.{_≡_, sym, ap, _∙_}
+use Prim.Native.Nat.{ℕ}
+use mathlib.Core.Bool.{Bool, true, false, _&&_}
+use mathlib.Core.List.{List}
+use mathlib.Core.Option.{Option, none}
 use lib.Dec.{eqb}
 use lib.ListN.{length, drop}
-use Rattle.lent.proofs.Tests.{by-test}
 use Rattle.lent.specs.Answers.{isDone}
 use Rattle.lent.specs.Lists.{isEmpty}
 use Rattle.lent.specs.Outcome.{Outcome}
@@ -18,7 +17,7 @@ use Rattle.record_fields.specs.Fields.{Field, MN, fields, fieldsOf, firstNamed}
 use Rattle.record_rows.specs.Letters.{turnedLetters}
 use Rattle.record_steps.proofs.StepLaws.{as-it-came, opened-is}
 use Rattle.record_steps.specs.Cuts.{cutTurned}
-use Rattle.record_tags.specs.Changes.{TagEdit, changed, editing, isTagged, removal}
+use Rattle.record_tags.specs.Changes.{changed, editing, isTagged, removal}
 use Rattle.record_tags.specs.Records.{Finished, cutFields, cutRecord, dropEdit, dropFields, dropRecord, finished, finishedWith, inDomain, inRoom, maskEdit, maskFields, maskRecord, remade, startOf}
 use Rattle.record_tags.specs.Values.{disagrees}
 use Rattle.samtags.specs.Edits.{sameBytes, windowStart}

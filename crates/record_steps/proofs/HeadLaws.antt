@@ -1,10 +1,10 @@
 -- What the code works with, which it reads off the head and finds in its rows, is what the definitions say.
 -- Assumes nothing.
 use mathlib.Core.Path.{_≡_, refl, sym, ap, _∙_, subst}
-use Prim.Native.Nat.{ℕ, _+_, _-_, _≤_, _<_}
+use Prim.Native.Nat.{ℕ, _+_, _≤_, _<_}
 use native.Mathlib.Omega.{arith}
 use mathlib.Core.Bool.{Bool, true, false, cond, not, _&&_, _||_}
-use mathlib.Core.List.{List, [], _∷_, _++_}
+use mathlib.Core.List.{List, [], _∷_}
 use mathlib.Core.Option.{Option, none, some}
 use lib.Dec.{leb, eqb}
 use lib.ListN.{length, getD, take, drop}
@@ -14,7 +14,7 @@ use Rattle.lent.proofs.Filled.{over-front}
 use Rattle.lent.specs.Filled.{over}
 use Rattle.lent.specs.Lists.{isEmpty}
 use Rattle.lent.specs.Outcome.{Outcome}
-use Rattle.packed.proofs.Turning.{length-in-read, read-front}
+use Rattle.packed.proofs.Turning.{length-in-read}
 use Rattle.packed.specs.Packed.{bytesFor, unpack}
 use Rattle.packed.specs.Stored.{inRead, placesInRead}
 use Rattle.record_edits.specs.Finish.{finishedFrom}
@@ -24,7 +24,7 @@ use Rattle.record_fates.proofs.FateLaws.{opened-inside}
 use Rattle.record_fates.specs.Fates.{HeadRead, OpenedAs, guarded}
 use Rattle.record_fates.specs.declared.Opened.the-variants.{To}
 use Rattle.record_fields.proofs.SpotLaws.{spot-size}
-use Rattle.record_fields.specs.Bam.{headSize, isReverse, isWhole, packedSeq, seqLength, seqStart}
+use Rattle.record_fields.specs.Bam.{headSize, isReverse, isWhole, packedSeq, seqLength}
 use Rattle.record_fields.specs.Fields.{Field, fields, fieldsOf, firstNamed}
 use Rattle.record_fields.specs.Spots.{Spots, part}
 use Rattle.record_fields.specs.declared.Head.{Head}

@@ -1,29 +1,24 @@
 -- From the definitions of the three calls to what the code does with an opened record: which edit it is, and when the record stays as it came.
 -- Assumes nothing.
-use mathlib.Core.Path.{_≡_, refl, sym, ap, _∙_, subst}
-use Prim.Native.Nat.{ℕ, _+_, _≤_, _<_}
+use mathlib.Core.Path.{_≡_, sym, ap, _∙_}
+use Prim.Native.Nat.{ℕ, _≤_}
 use native.Mathlib.Omega.{arith}
-use mathlib.Core.Bool.{Bool, true, false, cond, not, _&&_, _||_}
-use mathlib.Core.List.{List, [], _∷_, _++_}
-use mathlib.Core.Option.{Option, none, some}
-use lib.Dec.{leb, ltb, eqb}
+use mathlib.Core.Bool.{Bool, true, false}
+use mathlib.Core.List.{List, [], _++_}
+use lib.Dec.{ltb, eqb}
 use lib.ListN.{length, take, drop, take-append-drop}
-use borrow.Author.Tests.{eqb-true, le-ltb, eq-eqb, ne-eqb}
+use borrow.Author.Tests.{eqb-true, le-ltb}
 use Rattle.changing.proofs.WindowLaws.{cut-is, drop-is, mask-is}
 use Rattle.changing.specs.Windows.{isMarked, markedAt}
 use Rattle.lent.proofs.Tests.{by-test}
 use Rattle.lent.specs.Answers.{isDone}
-use Rattle.lent.specs.Lists.{isEmpty}
-use Rattle.lent.specs.Outcome.{Outcome, done, need}
 use Rattle.record_fates.specs.Fates.{guarded}
 use Rattle.record_fields.proofs.FieldsLaws.{fields-done}
 use Rattle.record_fields.proofs.Inverse.{joined-fields}
 use Rattle.record_fields.specs.Bam.{headSize, isWhole, seqLength}
 use Rattle.record_fields.specs.Fields.{Field, fields, fieldsOf, joined}
-use Rattle.record_tags.specs.Changes.{TagEdit}
 use Rattle.record_tags.specs.Plans.{byWindow}
-use Rattle.record_tags.specs.Records.{Finished, cutEdit, dropEdit, finished, finishedWith, inDomain, inRoom, maskEdit, remade}
-use Rattle.samtags.specs.Writing.{Tag}
+use Rattle.record_tags.specs.Records.{cutEdit, dropEdit, finished, finishedWith, inDomain, inRoom, maskEdit, remade}
 
 -- ---- an opened record
 

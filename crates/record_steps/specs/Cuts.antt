@@ -5,12 +5,11 @@ use mathlib.Core.Bool.{cond}
 use mathlib.Core.List.{List}
 use mathlib.Core.Option.{Option, none, some}
 use lib.Dec.{eqb}
-use lib.ListN.{length, drop}
-use Rattle.lent.specs.Outcome.{Outcome}
-use Rattle.record_fields.specs.Bam.{headSize, seqLength}
-use Rattle.record_fields.specs.Fields.{Field, fieldsOf}
+use lib.ListN.{length}
+use Rattle.record_fields.specs.Bam.{seqLength}
+use Rattle.record_fields.specs.Fields.{Field}
 use Rattle.record_tags.specs.Changes.{changed, editing}
-use Rattle.record_tags.specs.Records.{Finished, cutEdit, finished, inRoom, orRemoval, windowIn}
+use Rattle.record_tags.specs.Records.{cutEdit, orRemoval, windowIn}
 
 -- the fields afterwards; the start is that of the window
 abbrev pub cutTurned : List ℕ → List ℕ → List ℕ → Option ℕ → List Field → List Field

@@ -4,21 +4,21 @@ use mathlib.Core.Path.{_≡_, refl, sym, ap, _∙_, subst}
 use Prim.Native.Nat.{ℕ, suc, _+_, _≤_, _<_}
 use native.Mathlib.Omega.{arith}
 use mathlib.Core.Bool.{Bool, true, false, cond, _&&_, _||_}
-use mathlib.Core.List.{List, [], _∷_, _++_}
+use mathlib.Core.List.{List, [], _∷_}
 use lib.Dec.{leb, eqb}
 use lib.ListN.{length, length-append, length-set, getD, set}
 use lib.Seq.{getD-set-other, getD-set-same}
-use borrow.Author.Tests.{eqb-false, eqb-true, leb-true}
-use Rattle.lent.proofs.Tests.{and-true-l, and-true-r, by-test}
+use borrow.Author.Tests.{eqb-false, eqb-true}
+use Rattle.lent.proofs.Tests.{and-true-l, by-test}
 use Rattle.lent.specs.Answers.{isDone}
-use Rattle.lent.specs.Lists.{every, isEmpty}
+use Rattle.lent.specs.Lists.{isEmpty}
 use Rattle.lent.specs.Outcome.{Outcome, refused, done}
 use Rattle.record_fields.specs.Fields.{Field, firstNamed, nameOf}
 use Rattle.record_tags.proofs.GrowthLaws.{name-small}
-use Rattle.record_tags.proofs.PlanLaws.{first-here, first-later, planned-next, ready-here, ready-next, there}
+use Rattle.record_tags.proofs.PlanLaws.{first-later, planned-next, ready-here, ready-next}
 use Rattle.record_tags.specs.Changes.{Changes, after, applied, changed, lengthSet, orGoes}
 use Rattle.record_tags.specs.Plans.{Means, Ready, isReady, nextOf, planned, queueBy}
-use Rattle.record_tags.specs.Values.{isInteger, textOf, withInteger, withText, withValues}
+use Rattle.record_tags.specs.Values.{isInteger, textOf, withText, withValues}
 use Rattle.samtags.specs.Writing.{Tag}
 
 abbrev pub letsGo : ℕ → Bool

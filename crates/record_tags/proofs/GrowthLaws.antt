@@ -1,9 +1,9 @@
 -- How much a record can grow: an edited tag is never longer than it was, and MN may take three bytes more.
 -- Assumes nothing.
 use mathlib.Core.Path.{_≡_, refl, sym, ap, _∙_, subst}
-use Prim.Native.Nat.{ℕ, suc, _+_, _-_, _*_, _≤_, _<_}
+use Prim.Native.Nat.{ℕ, _+_, _-_, _≤_, _<_}
 use native.Mathlib.Omega.{arith}
-use mathlib.Core.Bool.{Bool, true, false, cond, _&&_, _||_}
+use mathlib.Core.Bool.{Bool, true, false, cond, _||_}
 use mathlib.Core.List.{List, [], _∷_, _++_}
 use lib.Dec.{leb, eqb}
 use mathlib.Core.List.{append-assoc}
@@ -15,7 +15,7 @@ use Rattle.lent.specs.Answers.{isDone}
 use Rattle.lent.specs.Lists.{every}
 use Rattle.lent.specs.Outcome.{Outcome, refused, done}
 use Rattle.record_fields.specs.Bam.{wordBytes}
-use Rattle.record_fields.specs.Fields.{Field, firstNamed, joined, nameOf}
+use Rattle.record_fields.specs.Fields.{Field, joined, nameOf}
 use Rattle.record_tags.proofs.PlanLaws.{planned-next, ready-here, ready-next}
 use Rattle.record_tags.specs.Changes.{Changes, TagEdit, after, applied, changed, lengthSet, orGoes}
 use Rattle.record_tags.specs.Plans.{Means, Ready, growth, isReady, nextOf, planned, queueBy}

@@ -1,19 +1,19 @@
 -- A plan carried out field by field.
 -- Assumes nothing.
 use mathlib.Core.Path.{_≡_, refl, sym, ap, _∙_, subst}
-use Prim.Native.Nat.{ℕ, suc, _+_, _*_, _≤_, _<_}
+use Prim.Native.Nat.{ℕ, _<_}
 use native.Mathlib.Omega.{arith}
-use mathlib.Core.Bool.{Bool, true, false, cond, _&&_, _||_}
+use mathlib.Core.Bool.{Bool, true, false, _||_}
 use mathlib.Core.List.{List, [], _∷_, _++_}
 use lib.Dec.{leb, eqb}
-use lib.ListN.{length, length-append, getD, set}
+use lib.ListN.{length, getD, set}
 use lib.Seq.{getD-set-other, getD-set-same}
 use borrow.Author.Tests.{eqb-false, eqb-true, eq-eqb, leb-true, ne-eqb}
 use Rattle.lent.proofs.Tests.{and-true-l, and-true-r, by-test}
 use Rattle.lent.specs.Lists.{every, isEmpty}
-use Rattle.record_fields.specs.Fields.{Field, firstNamed, joined, nameOf}
+use Rattle.record_fields.specs.Fields.{Field, firstNamed, nameOf}
 use Rattle.record_tags.specs.Changes.{Change, Changes, after, applied, changed, rest}
-use Rattle.record_tags.specs.Plans.{Means, Ready, growth, isReady, nextOf, planned, queueBy}
+use Rattle.record_tags.specs.Plans.{Means, Ready, isReady, nextOf, planned, queueBy}
 
 -- ---- the changes after a field
 

@@ -1,9 +1,8 @@
 -- `cut_record` opens the record, looks whether it is tagged, whether there is a base and whether MN agrees, and then cuts.
 -- Assumes nothing.
 use mathlib.Core.Path.{_≡_, _∙_, ap, refl, subst, sym}
-use Prim.Native.Nat.{_≤_}
 use native.Mathlib.Omega.{arith}
-use mathlib.Core.Bool.{_&&_, false, true}
+use mathlib.Core.Bool.{_&&_}
 use lib.ListN.{drop, length}
 use borrow.Author.Tests.{not-false, not-true}
 use lib.Dec.{eqb}

@@ -1,7 +1,6 @@
 -- `drop_record` opens the record, looks whether there is a place and a tag and whether MN agrees, and then drops.
 -- Assumes nothing.
 use mathlib.Core.Path.{_≡_, _∙_, ap, refl, subst, sym}
-use Prim.Native.Nat.{_≤_}
 use native.Mathlib.Omega.{arith}
 use mathlib.Core.Bool.{false, true}
 use lib.ListN.{drop, length}

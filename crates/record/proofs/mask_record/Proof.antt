@@ -1,9 +1,8 @@
 -- `mask_record` opens the record, looks whether it is tagged and whether MN agrees, and then masks.
 -- Assumes nothing.
 use mathlib.Core.Path.{_≡_, _∙_, ap, refl, subst, sym}
-use Prim.Native.Nat.{_≤_}
 use native.Mathlib.Omega.{arith}
-use mathlib.Core.Bool.{false, true}
+use mathlib.Core.Bool.{true}
 use lib.ListN.{drop, length}
 use borrow.Author.Tests.{not-false, not-true}
 use Rattle.lent.specs.Outcome.{refused}

@@ -1,15 +1,11 @@
 -- `edit_record` finds what becomes of the tags, and writes the record by that plan.
 -- Assumes nothing.
-use mathlib.Core.Path.{_≡_, _∙_, ap, refl}
-use Prim.Native.Nat.{ℕ}
+use mathlib.Core.Path.{_∙_, ap}
 use native.Mathlib.Omega.{arith}
-use mathlib.Core.List.{List}
-use lib.ListN.{drop, length}
+use lib.ListN.{length}
 use Rattle.record_edits.proofs.EditedLaws.{am-fits, bases-fit, bm-fits, edit-finished, edit-ready, ml-fits, mm-fits, sound, text-slice, values-slice}
 use Rattle.record_fates.specs.Fates.{guarded}
-use Rattle.record_fields.specs.Fields.{Field, fieldsOf}
-use Rattle.record_tags.specs.Changes.{TagEdit}
-use Rattle.record_tags.specs.Plans.{Ready, byWindow, means}
+use Rattle.record_tags.specs.Plans.{byWindow}
 use Rattle.record_tags.specs.Records.{Finished, arrayFits, inRoom, textFits}
 use Rattle.record_writing.specs.Answers.{leavesRecord}
 use borrow.Author.Needs.{needs}

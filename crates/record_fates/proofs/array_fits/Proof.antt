@@ -1,6 +1,6 @@
 -- `array_fits`: an array of bytes takes eight bytes besides its own.
 -- Assumes nothing.
-use mathlib.Core.Path.{_≡_, sym}
+use mathlib.Core.Path.{sym}
 use native.Mathlib.Omega.{arith}
 use borrow.Author.Needs.{needs}
 use Rattle.record_fates.proofs.FateLaws.{fits-array, fits-no-array, fits-no-bytes, fits-short}

@@ -1,10 +1,10 @@
 -- `open_record`: head, fields and lengths, in this order. What the callees say at the byte that the head names is said at the head's size.
 -- Assumes nothing.
 use mathlib.Core.Path.{_∙_, _≡_, subst, sym}
-use mathlib.Core.Bool.{true, false}
-use Prim.Native.Nat.{ℕ, _≤_}
+use mathlib.Core.Bool.{true}
+use Prim.Native.Nat.{ℕ}
 use native.Mathlib.Omega.{arith}
-use lib.ListN.{drop, length}
+use lib.ListN.{drop}
 use borrow.Author.Needs.{needs}
 use borrow.Author.Tests.{not-false, not-true}
 use Rattle.lent.specs.Answers.{isDone}

@@ -1,6 +1,5 @@
 -- `is_tagged` looks for a size that is not 0.
 -- Assumes nothing.
-use mathlib.Core.Path.{_∙_}
 use lib.ListN.{getD}
 use borrow.Author.Needs.{needs}
 use borrow.Author.Tests.{eq-eqb, ne-eqb}

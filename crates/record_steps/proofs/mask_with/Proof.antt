@@ -1,13 +1,10 @@
 -- `mask_with` compares SEQ as it is stored, and then edits over both SEQs in read orientation.
 -- Assumes nothing.
 use mathlib.Core.Path.{_≡_, _∙_, ap, refl, sym}
-use Prim.Native.Nat.{_-_, _≤_}
+use Prim.Native.Nat.{_-_}
 use native.Mathlib.Omega.{arith}
 use mathlib.Core.Bool.{false}
-use mathlib.Core.List.{List}
 use lib.ListN.{length, take}
-use Prim.Native.Nat.{ℕ}
-use Rattle.lent.specs.Filled.{over}
 use Rattle.packed.proofs.Turning.{read-front}
 use Rattle.packed.specs.Packed.{bytesFor, unpack}
 use Rattle.packed.specs.Stored.{inRead}

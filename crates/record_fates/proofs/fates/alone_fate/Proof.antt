@@ -1,7 +1,7 @@
 -- `alone_fate`: the text is the slice between its type and its NUL, and `accepts` says whether it can be edited.
 -- Assumes nothing.
 use mathlib.Core.Path.{_∙_, _≡_, refl, sym}
-use mathlib.Core.Bool.{true, false}
+use mathlib.Core.Bool.{false}
 use mathlib.Core.List.{[]}
 use Prim.Native.Nat.{_+_, _-_, _≤_}
 use lib.ListN.{drop, take}

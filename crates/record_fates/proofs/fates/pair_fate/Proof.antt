@@ -1,7 +1,7 @@
 -- `pair_fate`: without ML as `alone_fate`; with an ML that is an array of bytes `accepts` says whether both can be edited.
 -- Assumes nothing.
-use mathlib.Core.Path.{_∙_, _≡_, refl, sym}
-use mathlib.Core.Bool.{true, false}
+use mathlib.Core.Path.{_∙_, refl, sym}
+use mathlib.Core.Bool.{true}
 use Prim.Native.Nat.{_≤_}
 use native.Mathlib.Omega.{arith}
 use borrow.Author.Needs.{needs}
