@@ -25,6 +25,7 @@ use record_fates::Opened;
 use record_fates::is_stale;
 use record_fates::open_record;
 use record_fields::Head;
+use record_fields::MN;
 use record_fields::no_spots;
 use record_writing::whole::Recorded;
 use record_writing::whole::keep_record;
@@ -102,7 +103,7 @@ pub fn mask_record(bam: &[u8], before: &[u8], out: &mut [u8]) -> Recorded
     if !tagged {
         return keep_record(bam, out); // whatever MN is
     }
-    let stale = is_stale(bam, ats[2], sizes[2], head.bases); // a mask keeps the length
+    let stale = is_stale(bam, ats[MN], sizes[MN], head.bases); // a mask keeps the length
     if stale {
         return remove_record(bam, head.fields_at, out);
     }
@@ -173,7 +174,7 @@ pub fn drop_record(bam: &[u8], places: &[u32], out: &mut [u8]) -> Recorded
     if !tagged {
         return keep_record(bam, out);
     }
-    let stale = is_stale(bam, ats[2], sizes[2], head.bases);
+    let stale = is_stale(bam, ats[MN], sizes[MN], head.bases);
     if stale { // the tags are of another SEQ
         return remove_record(bam, head.fields_at, out);
     }
@@ -270,7 +271,7 @@ pub fn cut_record(
     if nothing {
         return keep_record(bam, out);
     }
-    let stale = is_stale(bam, ats[2], sizes[2], before.len());
+    let stale = is_stale(bam, ats[MN], sizes[MN], before.len());
     if stale {
         return remove_record(bam, head.fields_at, out);
     }

@@ -11,10 +11,17 @@ ghost use Rattle.record_fates.specs.Fates.{guarded};
 ghost use Rattle.record_fields.specs.Fields.{fields, fieldsOf};
 ghost use Rattle.record_fields.specs.Spots.{Spots, part};
 ghost use Rattle.record_tags.specs.Changes.{changed, editing, isTagged, removal};
-ghost use Rattle.record_tags.specs.Plans.{byWindow};
+ghost use Rattle.record_tags.specs.Plans.{GOES, PAIRED, byWindow};
 ghost use Rattle.record_tags.specs.Records.{inDomain, inRoom};
 ghost use Rattle.record_tags.specs.Values.{textOf, valuesOf};
 ghost use Rattle.record_writing.specs.Answers.{leavesRecord, left, recordSays};
+use record_fields::AM;
+use record_fields::BM;
+use record_fields::ML;
+use record_fields::MM;
+use record_tags::GOES;
+use record_tags::PAIRED;
+use record_tags::STAYS;
 use record_writing::whole::Recorded;
 
 // The record without the first field of each of the five names.
@@ -29,7 +36,7 @@ pub fn remove_record(bam: &[u8], from: usize, out: &mut [u8]) -> Recorded
     record_writing::whole::write_record(
         bam,
         from,
-        [1, 1, 1, 1, 1, 0],
+        [GOES, GOES, GOES, GOES, GOES, STAYS],
         &none,
         &none,
         0,
@@ -45,23 +52,23 @@ pub fn remove_record(bam: &[u8], from: usize, out: &mut [u8]) -> Recorded
 
 // Whether MM, am or bm goes.
 fn any_goes(mm: u8, am: u8, bm: u8) -> bool
-    ensures { λ r. ⌜ r ≡ (eqb mm 1 || eqb am 1 || eqb bm 1) ⌝ }
+    ensures { λ r. ⌜ r ≡ (eqb mm GOES || eqb am GOES || eqb bm GOES) ⌝ }
 {
-    if mm == 1 {
+    if mm == GOES {
         return true;
     }
-    if am == 1 {
+    if am == GOES {
         return true;
     }
-    bm == 1
+    bm == GOES
 }
 
 // The text of MM, if it is edited with its ML; else no text.
 fn paired_text(bam: &[u8], at: usize, size: usize, fate: u8) -> &[u8]
-    requires { ⌜ (at + size ≤ length (now bam)) × (fate ≡ 3 → (4 ≤ size) × (size ≤ 65540)) ⌝ }
-    ensures { λ r. ⌜ (fate ≡ 3 → now r ≡ textOf (part (now (bam .entry)) at size)) × (length (now r) ≤ 65536) ⌝ }
+    requires { ⌜ (at + size ≤ length (now bam)) × (fate ≡ PAIRED → (4 ≤ size) × (size ≤ 65540)) ⌝ }
+    ensures { λ r. ⌜ (fate ≡ PAIRED → now r ≡ textOf (part (now (bam .entry)) at size)) × (length (now r) ≤ 65536) ⌝ }
 {
-    if fate == 3 {
+    if fate == PAIRED {
         return &bam[at + 3..at + size - 1];
     }
     &bam[0..0]
@@ -69,10 +76,10 @@ fn paired_text(bam: &[u8], at: usize, size: usize, fate: u8) -> &[u8]
 
 // The values of ML, if MM is edited with it; else no value.
 fn paired_values(bam: &[u8], at: usize, size: usize, fate: u8) -> &[u8]
-    requires { ⌜ (at + size ≤ length (now bam)) × (fate ≡ 3 → (8 ≤ size) × (size ≤ 65544)) ⌝ }
-    ensures { λ r. ⌜ (fate ≡ 3 → now r ≡ valuesOf (part (now (bam .entry)) at size)) × (length (now r) ≤ 65536) ⌝ }
+    requires { ⌜ (at + size ≤ length (now bam)) × (fate ≡ PAIRED → (8 ≤ size) × (size ≤ 65544)) ⌝ }
+    ensures { λ r. ⌜ (fate ≡ PAIRED → now r ≡ valuesOf (part (now (bam .entry)) at size)) × (length (now r) ≤ 65536) ⌝ }
 {
-    if fate == 3 {
+    if fate == PAIRED {
         return &bam[at + 8..at + size];
     }
     &bam[0..0]
@@ -105,10 +112,10 @@ pub fn edit_record(
 {
     let mm = record_fates::fates::pair_fate(
         bam,
-        ats[0],
-        sizes[0],
-        ats[1],
-        sizes[1],
+        ats[MM],
+        sizes[MM],
+        ats[ML],
+        sizes[ML],
         seq,
         after,
         marks,
@@ -117,8 +124,8 @@ pub fn edit_record(
     );
     let am = record_fates::fates::alone_fate(
         bam,
-        ats[3],
-        sizes[3],
+        ats[AM],
+        sizes[AM],
         seq,
         after,
         marks,
@@ -127,8 +134,8 @@ pub fn edit_record(
     );
     let bm = record_fates::fates::alone_fate(
         bam,
-        ats[4],
-        sizes[4],
+        ats[BM],
+        sizes[BM],
         seq,
         after,
         marks,
@@ -137,8 +144,8 @@ pub fn edit_record(
     );
     let plan = record_fates::fates::plan_of(mm, am, bm, set);
     let went = any_goes(mm, am, bm);
-    let text = paired_text(bam, ats[0], sizes[0], mm);
-    let values = paired_values(bam, ats[1], sizes[1], mm);
+    let text = paired_text(bam, ats[MM], sizes[MM], mm);
+    let values = paired_values(bam, ats[ML], sizes[ML], mm);
     record_writing::whole::write_record(
         bam,
         from,

@@ -18,6 +18,7 @@ use Rattle.record_fields.specs.Fields.{Field, fields, fieldsOf, isField}
 use Rattle.record_fields.specs.Spots.{Spots}
 use Rattle.record_fields.specs.declared.Head.{Head}
 use Rattle.record_tags.specs.Changes.{TagEdit}
+use Rattle.record_tags.specs.Plans.{ALONE, GOES, GOES-THEN-LENGTH, LENGTH, PAIRED, STAYS, VALUES}
 use Rattle.record_tags.specs.Records.{inDomain, remade}
 use Rattle.record_tags.specs.Values.{isByteArray, isText, textOf, valuesOf}
 
@@ -51,21 +52,21 @@ guarded possible edit ml? text ml = need possible 2 (edit ml? text ml)
 
 -- a text is edited without ML, or goes
 abbrev pub aloneFate : TagEdit → Field → ℕ
-aloneFate edit f = cond (isText f) (cond (isDone (edit false (textOf f) [])) 2 1) 0
+aloneFate edit f = cond (isText f) (cond (isDone (edit false (textOf f) [])) ALONE GOES) STAYS
 
 -- MM is edited with its ML, if there is one, or goes
 abbrev pub pairFate : TagEdit → Field → Field → ℕ
 pairFate edit mm ml =
     cond (isEmpty ml) (aloneFate edit mm)
-    (cond (isText mm) (cond (isByteArray ml && isDone (edit true (textOf mm) (valuesOf ml))) 3 1) 0)
+    (cond (isText mm) (cond (isByteArray ml && isDone (edit true (textOf mm) (valuesOf ml))) PAIRED GOES) STAYS)
 
 -- ML goes with MM
 abbrev pub arrayFate : ℕ → ℕ
-arrayFate mm = cond (eqb mm 1) 1 (cond (eqb mm 3) 4 0)
+arrayFate mm = cond (eqb mm GOES) GOES (cond (eqb mm PAIRED) VALUES STAYS)
 
 -- MN goes with MM; if SEQ's length changed, an MN that is still there is set
 abbrev pub lengthFate : ℕ → Bool → ℕ
-lengthFate mm set = cond (eqb mm 1) (cond set 6 1) (cond set 5 0)
+lengthFate mm set = cond (eqb mm GOES) (cond set GOES-THEN-LENGTH GOES) (cond set LENGTH STAYS)
 
 abbrev pub planOf : ℕ → ℕ → ℕ → Bool → List ℕ
-planOf mm am bm set = mm ∷ arrayFate mm ∷ lengthFate mm set ∷ am ∷ bm ∷ 0 ∷ []
+planOf mm am bm set = mm ∷ arrayFate mm ∷ lengthFate mm set ∷ am ∷ bm ∷ STAYS ∷ []

@@ -7,8 +7,15 @@ ghost use Rattle.record_fates.specs.Fates.{aloneFate, arrayFate, guarded
 ghost use Rattle.record_fields.specs.Spots.{part};
 ghost use Rattle.record_tags.specs.Plans.{byWindow};
 ghost use Rattle.record_tags.specs.Records.{arrayFits, textFits};
+use record_tags::ALONE;
+use record_tags::GOES;
+use record_tags::GOES_THEN_LENGTH;
+use record_tags::LENGTH;
+use record_tags::PAIRED;
+use record_tags::STAYS;
+use record_tags::VALUES;
 
-// What becomes of a text that is edited without ML: 0 no text, 1 it goes, 2 it is edited.
+// What becomes of a text that is edited without ML; what is no text stays.
 pub fn alone_fate(
     bam: &[u8],
     at: usize,
@@ -25,24 +32,24 @@ pub fn alone_fate(
         (part (now (bam .entry)) at size) ⌝ }
 {
     if size == 0 {
-        return 0;
+        return STAYS;
     }
     if bam[at + 2] != b'Z' {
-        return 0;
+        return STAYS;
     }
     if !possible {
-        return 1;
+        return GOES;
     }
     let no_ml: [u8; 0] = [];
     let text = &bam[at + 3..at + size - 1];
     let accepted = record_rows::accepts(seq, after, marks, text, &no_ml, lo, false);
     if accepted {
-        return 2;
+        return ALONE;
     }
-    1
+    GOES
 }
 
-// What becomes of MM, whose ML is at another byte: 0 no text, 1 it goes, 2 it is edited alone, 3 it is edited with ML.
+// What becomes of MM, whose ML is at another byte: it is edited alone if there is no ML, and else with it; what is no text stays.
 pub fn pair_fate(
     bam: &[u8],
     at: usize,
@@ -66,56 +73,56 @@ pub fn pair_fate(
         return alone_fate(bam, at, size, seq, after, marks, lo, possible);
     }
     if size == 0 {
-        return 0;
+        return STAYS;
     }
     if bam[at + 2] != b'Z' {
-        return 0;
+        return STAYS;
     }
     if bam[ml_at + 2] != b'B' {
-        return 1;
+        return GOES;
     }
     if bam[ml_at + 3] != b'C' {
-        return 1;
+        return GOES;
     }
     if !possible {
-        return 1;
+        return GOES;
     }
     let text = &bam[at + 3..at + size - 1];
     let values = &bam[ml_at + 8..ml_at + ml_size];
     let accepted = record_rows::accepts(seq, after, marks, text, values, lo, true);
     if accepted {
-        return 3;
+        return PAIRED;
     }
-    1
+    GOES
 }
 
 // What becomes of ML, by what becomes of MM.
 fn array_fate(mm: u8) -> u8
     ensures { λ r. ⌜ r ≡ arrayFate mm ⌝ }
 {
-    if mm == 1 {
-        return 1;
+    if mm == GOES {
+        return GOES;
     }
-    if mm == 3 {
-        return 4;
+    if mm == PAIRED {
+        return VALUES;
     }
-    0
+    STAYS
 }
 
 // What becomes of MN, by what becomes of MM and whether SEQ's length changed.
 fn length_fate(mm: u8, set: bool) -> u8
     ensures { λ r. ⌜ r ≡ lengthFate mm set ⌝ }
 {
-    if mm == 1 {
+    if mm == GOES {
         if set {
-            return 6;
+            return GOES_THEN_LENGTH;
         }
-        return 1;
+        return GOES;
     }
     if set {
-        return 5;
+        return LENGTH;
     }
-    0
+    STAYS
 }
 
 // The plan by what becomes of MM, am and bm, and whether SEQ's length changed.
@@ -124,5 +131,5 @@ pub fn plan_of(mm: u8, am: u8, bm: u8, set: bool) -> [u8; 6]
 {
     let ml = array_fate(mm);
     let mn = length_fate(mm, set);
-    [mm, ml, mn, am, bm, 0]
+    [mm, ml, mn, am, bm, STAYS]
 }

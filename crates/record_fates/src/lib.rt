@@ -16,7 +16,11 @@ ghost use Rattle.record_fields.specs.Spots.{Spots, part};
 ghost use Rattle.record_tags.specs.Records.{arrayFits, inDomain, textFits};
 ghost use Rattle.record_tags.specs.Values.{disagrees};
 use lent::Refusal;
+use record_fields::AM;
+use record_fields::BM;
 use record_fields::Head;
+use record_fields::ML;
+use record_fields::MM;
 use record_fields::sizes::half_at;
 use record_fields::sizes::word_at;
 
@@ -87,10 +91,10 @@ fn lengths_fit(
     if 16000 < letters {
         return false;
     }
-    let mm = text_fits(bam, ats[0], sizes[0]);
-    let ml = array_fits(bam, ats[1], sizes[1]);
-    let am = text_fits(bam, ats[3], sizes[3]);
-    let bm = text_fits(bam, ats[4], sizes[4]);
+    let mm = text_fits(bam, ats[MM], sizes[MM]);
+    let ml = array_fits(bam, ats[ML], sizes[ML]);
+    let am = text_fits(bam, ats[AM], sizes[AM]);
+    let bm = text_fits(bam, ats[BM], sizes[BM]);
     mm & ml & am & bm
 }
 

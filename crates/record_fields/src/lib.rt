@@ -52,32 +52,45 @@ pub fn is_whole(bam: &[u8]) -> bool
     head.fields_at <= bam.len()
 }
 
+// The names that the calls look at, and every other name, each by a number: an index into rows with an entry for each name.
+pub const MM: usize = 0;
+
+pub const ML: usize = 1;
+
+pub const MN: usize = 2;
+
+pub const AM: usize = 3;
+
+pub const BM: usize = 4;
+
+pub const ANY_OTHER: usize = 5;
+
 // The name of two bytes, by its number.
 pub fn name_by(first: u8, second: u8) -> usize
     ensures { λ r. ⌜ (r ≡ nameBy first second) × (r < 6) ⌝ }
 {
     if first == b'M' {
         if second == b'M' {
-            return 0;
+            return MM;
         }
         if second == b'L' {
-            return 1;
+            return ML;
         }
         if second == b'N' {
-            return 2;
+            return MN;
         }
-        return 5;
+        return ANY_OTHER;
     }
     if second != b'm' {
-        return 5;
+        return ANY_OTHER;
     }
     if first == b'a' {
-        return 3;
+        return AM;
     }
     if first == b'b' {
-        return 4;
+        return BM;
     }
-    5
+    ANY_OTHER
 }
 
 // A row with no spot in it.

@@ -12,12 +12,18 @@ ghost use Rattle.lent.specs.Answers.{isDone};
 ghost use Rattle.lent.specs.Lists.{among};
 ghost use Rattle.record_fields.specs.Spots.{part};
 ghost use Rattle.record_tags.specs.Changes.{applied, lengthSet};
-ghost use Rattle.record_tags.specs.Plans.{byWindow, isReady, means, queueBy};
+ghost use Rattle.record_tags.specs.Plans.{PAIRED, VALUES, byWindow, isReady, means, queueBy};
 ghost use Rattle.record_tags.specs.Values.{textOf, withText, withValues};
 ghost use Rattle.record_pieces.specs.Pens.{Waiting, Wrote, textIn, valuesIn};
 ghost use Rattle.samtags.specs.Bytes.{ascii};
 use record_fields::sizes::put_word;
 use record_rows::put_bytes;
+use record_tags::ALONE;
+use record_tags::GOES;
+use record_tags::GOES_THEN_LENGTH;
+use record_tags::LENGTH;
+use record_tags::PAIRED;
+use record_tags::VALUES;
 
 // The end of the written part, and how many bytes of the edited tag wait in the work row: its values, its text, or neither.
 pub struct Pen {
@@ -266,7 +272,7 @@ fn put_length(bam: &[u8], at: usize, size: usize, bases: usize, out: &mut [u8], 
     put_bytes(out, end, &bam[at..at + size])
 }
 
-// Writes what becomes of a field by the plan's number for it, unless that is 3 or 4: then neither MM nor ML matters.
+// Writes what becomes of a field by the plan's number for it, unless it is MM or ML and edited with the other: then neither of them matters.
 fn put_other(
     bam: &[u8],
     at: usize,
@@ -281,21 +287,21 @@ fn put_other(
     end: usize,
 ) -> usize
     requires { ⌜ (at + size ≤ length (now bam)) × (4 ≤ size) × (end + 2 * size < 18446744073709551616) × (length (now seq) ≤ 16000)
-        × (bases ≤ 16000) × (number ≡ 3 → ⊥) × (number ≡ 4 → ⊥) ⌝ }
+        × (bases ≤ 16000) × (number ≡ PAIRED → ⊥) × (number ≡ VALUES → ⊥) ⌝ }
     requires { ⌜ isReady (means (byWindow lo (now after) (now marks) (now seq)) [] [] bases) number (part (now bam) at size) ≡ true ⌝ }
     ensures { λ r. ⌜ Wrote (applied (queueBy (means (byWindow lo (now (after .entry)) (now (marks .entry)) (now (seq .entry))) [] [] bases) number)
         (part (now (bam .entry)) at size)) end (now (out .entry)) r (now (out .exit)) ⌝ }
 {
-    if number == 1 {
+    if number == GOES {
         return end;
     }
-    if number == 6 {
+    if number == GOES_THEN_LENGTH {
         return end;
     }
-    if number == 2 {
+    if number == ALONE {
         return put_alone(bam, at, size, seq, after, marks, lo, out, end);
     }
-    if number == 5 {
+    if number == LENGTH {
         return put_length(bam, at, size, bases, out, end);
     }
     put_bytes(out, end, &bam[at..at + size])
@@ -326,10 +332,10 @@ pub fn put_field(
         (now (mm .entry)) (now (ml .entry)) bases) number) (part (now (bam .entry)) at size)) (pen .end) (now (out .entry)) (r .end) (now (out .exit))
         × Waiting (byWindow lo (now (after .entry)) (now (marks .entry)) (now (seq .entry)) true (now (mm .entry)) (now (ml .entry))) r (now (work .exit)) ⌝ }
 {
-    if number == 3 {
+    if number == PAIRED {
         return put_text(bam, at, mm, ml, seq, after, marks, lo, pen, out, work);
     }
-    if number == 4 {
+    if number == VALUES {
         return put_array(bam, at, mm, ml, seq, after, marks, lo, pen, out, work);
     }
     let end = put_other(

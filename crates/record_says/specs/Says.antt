@@ -83,7 +83,7 @@ abbrev pub times : ℕ → List Field → ℕ
 times k fs = length (filter (λ (f : Field). eqb (nameOf f) k) fs)
 
 abbrev pub fiveNames : List ℕ
-fiveNames = 0 ∷ 1 ∷ 2 ∷ 3 ∷ 4 ∷ []
+fiveNames = MM ∷ ML ∷ MN ∷ am ∷ bm ∷ []
 
 -- none of the five names is there twice
 abbrev pub noneTwice : List Field → Bool

@@ -23,7 +23,10 @@ ghost use Rattle.record_tags.specs.Records.{cutRecord, dropRecord, finished, in
 ghost use Rattle.record_tags.specs.Values.{disagrees};
 ghost use Rattle.record_writing.specs.Answers.{leavesRecord, left, recordSays};
 ghost use Rattle.rewriting.specs.Starts.{startSays};
+use record_fields::AM;
+use record_fields::BM;
 use record_fields::Head;
+use record_fields::MM;
 use record_writing::whole::Recorded;
 use record_writing::whole::keep_record;
 use rewriting::WindowStart;
@@ -244,11 +247,11 @@ pub fn cut_with(
 pub fn is_tagged(sizes: &[usize; 6]) -> bool
     ensures { λ r. ⌜ ((bam : List ℕ) (fs : List Field) (ats : List ℕ) → Spots bam fs ats (now (sizes .entry)) → r ≡ isTagged fs) ⌝ }
 {
-    if sizes[0] != 0 {
+    if sizes[MM] != 0 {
         return true;
     }
-    if sizes[3] != 0 {
+    if sizes[AM] != 0 {
         return true;
     }
-    sizes[4] != 0
+    sizes[BM] != 0
 }

@@ -14,15 +14,18 @@ ghost use Rattle.record_tags.specs.Changes.{changed};
 ghost use Rattle.record_tags.specs.Plans.{Ready, byWindow, means, nextOf, planned};
 ghost use Rattle.record_pieces.specs.Pens.{Wrote};
 use record_pieces::Pen;
+use record_tags::GOES_THEN_LENGTH;
+use record_tags::LENGTH;
+use record_tags::STAYS;
 
 // The plan's number for a name, after a field of that name.
 fn next_of(number: u8) -> u8
     ensures { λ r. ⌜ r ≡ nextOf number ⌝ }
 {
-    if number == 6 {
-        return 5;
+    if number == GOES_THEN_LENGTH {
+        return LENGTH;
     }
-    0
+    STAYS
 }
 
 // Writes the fields that begin at a byte of the record to the same byte of the new one and on. Answers the new record's length.

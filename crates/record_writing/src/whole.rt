@@ -13,7 +13,9 @@ ghost use Rattle.record_tags.specs.Records.{finishedWith, inRoom};
 ghost use Rattle.record_writing.specs.Answers.{leavesRecord, left, recordSays};
 use crate::put_fields;
 use lent::Refusal;
+use record_fields::MN;
 use record_rows::put_bytes;
+use record_tags::LENGTH;
 
 // The answer of a call on a record: how long the new record is and whether a field went, or why nothing was written.
 pub enum Recorded {
@@ -36,8 +38,8 @@ pub fn keep_record(bam: &[u8], out: &mut [u8]) -> Recorded
 fn growth_of(plan: [u8; 6]) -> usize
     ensures { λ r. ⌜ r ≡ growth plan ⌝ }
 {
-    if 5 <= plan[2] {
-        return 3;
+    if LENGTH <= plan[MN] {
+        return 3; // an integer of one byte becomes one of four
     }
     0
 }
