@@ -127,6 +127,11 @@ class Needs(Tree):
         with open(noted) as file:
             self.assertIn("install -y -qq some-package", file.read())
 
+    def test_need_of_a_file(self):
+        for name, status in ((__file__, 0), ("/no/such/file.h", 1)):
+            ended = run([os.path.join(ROOT, "tools", "need"), name, "some-package", "to try this"], env={**os.environ, "NO_INSTALL": "1"})
+            self.assertEqual((ended.returncode, ended.stdout), (status, ""))
+
     @unittest.skipUnless(os.uname().machine == "x86_64" and shutil.which("cc"), "needs a C compiler for x86-64")
     def test_examples_run(self):
         for example, output in (("c", "session.out"), ("records", "records.out")):
