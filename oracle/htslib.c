@@ -1,5 +1,5 @@
-/* Prints a line for each record of a BAM file, as htslib reads it: the number of bases, MN or `-`, and the calls of MM and ML. A call is its place in the
- * stored SEQ, its base, strand and code, and its value (-1 without ML). htslib.py compiles this program and runs it. */
+/* Prints a line for each record of a BAM file, as htslib reads it: the number of bases, whether there is an MM, MN or `-`, and the calls of MM and ML. A call
+ * is its place in the stored SEQ, its base, strand and code, and its value (-1 without ML). htslib.py compiles this program and runs it. */
 #include <inttypes.h>
 #include <stdio.h>
 
@@ -28,7 +28,7 @@ int main(int count, char **words)
     int got = header == NULL || record == NULL ? -2 : 0;
     while (got >= 0 && (got = sam_read1(file, header, record)) >= 0) {
         const uint8_t *mn = bam_aux_get(record, "MN");
-        printf("%d\t", record->core.l_qseq);
+        printf("%d\t%d\t", record->core.l_qseq, bam_aux_get(record, "MM") != NULL);
         if (mn == NULL)
             printf("-");
         else

@@ -7,7 +7,7 @@ Random records go through the program `ask`, which masks or cuts them, or drops 
 written to two BAM files, and htslib lists the calls of both (htslib.c). Of a new record it must list what it lists of the
 old one without the calls that were masked, dropped or cut off, and every other call as many places nearer to the front as
 bases were cut off there, with its value. MN must be the number of bases. If a drop takes a call from a group whose header
-does not end in '?', the tag must be gone, and otherwise it must be there.
+does not end in '?', MM must be gone, and the answer must say so; otherwise MM must be there, also with no call left.
 
 The same is asked of the records whose tags stayed as they came: htslib must then list something else for some of them, or
 this comparison would show nothing. The status is 1 if a record differs, or if nothing was shown; 3 if htslib is not there.
@@ -83,15 +83,15 @@ class Case:
 
     def wanted(self, listed):
         """What htslib should read of the new record, by what it reads of the old one."""
-        _, mn, *calls = listed
+        _, _, mn, *calls = listed
         calls = [call.split(":") for call in calls]
         if any(int(place) in self.dropped and base in self.unmarked for place, base, *_ in calls):
-            return [str(len(self.seq)), "-"]
+            return [str(len(self.seq)), "0", "-"]
         left = [(int(place), base, *rest) for place, base, *rest in calls if int(place) not in self.dropped]
         left = [call for call in left if call[0] not in self.masked or call[1] == "N"]
         moved = [(str(place - self.front), *rest) for place, *rest in left if self.front <= place < self.back]
         bases = str(self.back - self.front)
-        return [bases, mn if mn == "-" else bases, *map(":".join, moved)]
+        return [bases, "1", mn if mn == "-" else bases, *map(":".join, moved)]
 
 
 # ---- htslib ------------------------------------------------------------------------------------------
@@ -127,12 +127,12 @@ def read_by(program, folder, records):
 
 
 def new_records(cases, seed):
-    """The records that `ask` gives, and how many tags it removed."""
+    """The records that `ask` gives, and for each whether it says that a field went."""
     answers = [answer.split("\t") for answer in judge.answers_of(judge.ask_command(), [case.request for case in cases], seed)]
     refused = [(case, answer) for case, answer in zip(cases, answers) if answer[0] != "0"]
     if refused:
         sys.exit(f"htslib: {compare.shorten(refused[0][0].request)} is answered {refused[0][1]}")
-    return [bytes.fromhex(answer[3]) for answer in answers], sum(answer[1] == "1" for answer in answers)
+    return [bytes.fromhex(answer[3]) for answer in answers], [answer[1] == "1" for answer in answers]
 
 
 def main():
@@ -151,15 +151,16 @@ def main():
         old, now = read_by(program, folder, [case.old for case in cases]), read_by(program, folder, new)
         unedited = read_by(program, folder, [case.came for case in cases])
     wanted = [case.wanted(listed) for case, listed in zip(cases, old)]
-    different = [at for at in range(options.count) if now[at] != wanted[at]]
+    different = [at for at in range(options.count) if now[at] != wanted[at] or went[at] != (wanted[at][1] == "0")]
     for at in different[: compare.SHOWN]:
-        print(f"request  {compare.shorten(cases[at].request)}\n  htslib  {now[at]}\n  wanted  {wanted[at]}")
+        print(f"request  {compare.shorten(cases[at].request)}\n  htslib  {now[at]}, a field went: {went[at]}\n  wanted  {wanted[at]}")
     shown = sum(one != right for one, right in zip(unedited, wanted))
-    calls = sum(len(listed) - 2 for listed in now)
-    print(f"records as htslib reads them, seed {options.seed}: {options.count:,} records, {calls:,} calls left, {went:,} tags removed, "
+    calls = sum(len(listed) - 3 for listed in now)
+    removed = sum(went)
+    print(f"records as htslib reads them, seed {options.seed}: {options.count:,} records, {calls:,} calls left, {removed:,} tags removed, "
           f"{len(different)} differences; with their tags as they came {shown:,} differ")
     refused = any("refused" in listed for listed in old)
-    sys.exit(bool(different or refused or not shown or not went or not calls))
+    sys.exit(bool(different or refused or not shown or not removed or not calls))
 
 
 if __name__ == "__main__":

@@ -148,6 +148,10 @@ alone-tagged fs k a t =
 
 -- ---- an edit of MM, with its ML
 
+-- MM of a tag is a text
+pub tag-text : (bam : List ℕ) → hasTag bam ≡ true → isText (mmOf bam) ≡ true
+tag-text bam tag = and-true-l (isText (mmOf bam)) (isEmpty (mlOf bam) || isByteArray (mlOf bam)) tag
+
 -- a record whose MM is a text is tagged
 pub mm-tagged : (bam : List ℕ) → isText (mmOf bam) ≡ true → isTagged (fieldsIn bam) ≡ true
 unfolding isTagged
@@ -188,7 +192,7 @@ module _ {n : ℕ} {bam : List ℕ} {new : List Field} {r : Finished} (made : Ma
   fs = fieldsIn bam
 
   pub mm-text : isText (mmOf bam) ≡ true
-  mm-text = and-true-l (isText (mmOf bam)) (isEmpty (mlOf bam) || isByteArray (mlOf bam)) tag
+  mm-text = tag-text bam tag
 
   mm-there : isEmpty (mmOf bam) ≡ false
   mm-there = text-there (mmOf bam) mm-text

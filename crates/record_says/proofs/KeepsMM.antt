@@ -12,7 +12,7 @@ use lib.ListN.{length}
 use borrow.Author.Tests.{eq-eqb, not-true}
 use Rattle.lent.proofs.Lists.{every-ext, every-map, every-not}
 use Rattle.lent.proofs.Outcome.{and-then-inv, done-inj, need-test}
-use Rattle.lent.proofs.Tests.{and-true-l, and-true-r, by-test, test-ext}
+use Rattle.lent.proofs.Tests.{and-true-r, by-test, test-ext}
 use Rattle.lent.specs.Lists.{among, any, every, isEmpty}
 use Rattle.lent.specs.Outcome.{done}
 use Rattle.packed.specs.Packed.{unpack}
@@ -24,7 +24,7 @@ use Rattle.record_rows.specs.Letters.{turnedLetters}
 use Rattle.record_says.proofs.Listed.{drop-is, no-place, no-place-turned}
 use Rattle.record_says.proofs.Edits.{Tidy, cut-tidy, drop-tidy, editing-sound, first-is, lengths-none, lengths-some, mask-tidy}
 use Rattle.record_says.proofs.Firsts.{first-counted}
-use Rattle.record_says.proofs.Held.{empty-is, held, mm-tagged, not-removed, text-there}
+use Rattle.record_says.proofs.Held.{empty-is, held, mm-tagged, not-removed, tag-text, text-there}
 use Rattle.record_says.proofs.Made.{Made, cut-made, drop-made, fields-are, mask-made, old-fields}
 use Rattle.record_says.proofs.Pieces.{Lengths, field-long}
 use Rattle.record_says.specs.Says.{ListsOver, beginsAt, fieldsIn, hasML, hasTag, keeps, mlOf, mmOf, mnOf, readPlaces, readSeq, storedSeq, times}
@@ -53,7 +53,7 @@ same-kept {n} {bam} {new} {r} k m e = eq-eqb (times k (fieldsIn (r .bytes))) (ti
 
 module _ {n : ℕ} {bam : List ℕ} {new : List Field} {r : Finished} (made : Made n bam new r) (tag : hasTag bam ≡ true) where
   pub mm-is-text : isText (mmOf bam) ≡ true
-  mm-is-text = and-true-l (isText (mmOf bam)) (isEmpty (mlOf bam) || isByteArray (mlOf bam)) tag
+  mm-is-text = tag-text bam tag
 
   mm-is-there : isEmpty (mmOf bam) ≡ false
   mm-is-there = text-there (mmOf bam) mm-is-text
