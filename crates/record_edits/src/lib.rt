@@ -15,6 +15,9 @@ ghost use Rattle.record_tags.specs.Plans.{GOES, PAIRED, byWindow};
 ghost use Rattle.record_tags.specs.Records.{inDomain, inRoom};
 ghost use Rattle.record_tags.specs.Values.{textOf, valuesOf};
 ghost use Rattle.record_writing.specs.Answers.{leavesRecord, left, recordSays};
+use record_fates::fates::alone_fate;
+use record_fates::fates::pair_fate;
+use record_fates::fates::plan_of;
 use record_fields::AM;
 use record_fields::BM;
 use record_fields::ML;
@@ -110,7 +113,7 @@ pub fn edit_record(
         (changed (editing (guarded possible (byWindow lo (now (after .entry)) (now (marks .entry)) (now (seq .entry)))) (cond set (some bases) none)
         (fieldsOf (drop from (now (bam .entry))))) (fieldsOf (drop from (now (bam .entry))))))) (now (out .entry)) ⌝ }
 {
-    let mm = record_fates::fates::pair_fate(
+    let mm = pair_fate(
         bam,
         ats[MM],
         sizes[MM],
@@ -122,27 +125,9 @@ pub fn edit_record(
         lo,
         possible,
     );
-    let am = record_fates::fates::alone_fate(
-        bam,
-        ats[AM],
-        sizes[AM],
-        seq,
-        after,
-        marks,
-        lo,
-        possible,
-    );
-    let bm = record_fates::fates::alone_fate(
-        bam,
-        ats[BM],
-        sizes[BM],
-        seq,
-        after,
-        marks,
-        lo,
-        possible,
-    );
-    let plan = record_fates::fates::plan_of(mm, am, bm, set);
+    let am = alone_fate(bam, ats[AM], sizes[AM], seq, after, marks, lo, possible);
+    let bm = alone_fate(bam, ats[BM], sizes[BM], seq, after, marks, lo, possible);
+    let plan = plan_of(mm, am, bm, set);
     let went = any_goes(mm, am, bm);
     let text = paired_text(bam, ats[MM], sizes[MM], mm);
     let values = paired_values(bam, ats[ML], sizes[ML], mm);

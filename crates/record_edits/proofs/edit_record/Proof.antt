@@ -10,7 +10,6 @@ use Rattle.record_tags.specs.Records.{Finished, arrayFits, inRoom, textFits}
 use Rattle.record_writing.specs.Answers.{leavesRecord}
 use borrow.Author.Needs.{needs}
 use Rattle.record_edits.proofs.edit_record.Statement.{statement}
-use Rattle.record_edits.proofs.edit_record.Lts as lts
 use Rattle.record_edits.proofs.edit_record.Tie as tie
 
 element-copy-out-pair-fate : tie.Need-element-copy-out-pair-fate
