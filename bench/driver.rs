@@ -38,13 +38,9 @@ fn count_in(bucket: c_long) {
     unsafe { syscall(CHOOSE_BUCKET, bucket) };
 }
 
-/// The rounds of a tag of many groups, and how many groups the Rust is measured with.
-const FEW_ROUNDS: usize = 5;
-const GROUPS_FOR_RUST: usize = 1_000;
-
 /// How many calls a round has, each with its own session: enough for the clock, and few enough for the processor's caches.
 fn calls_a_round(c: &Case) -> usize {
-    if matches!(c.density, Density::Groups(_)) { 1 } else { (64_000 / c.bases).min(64) }
+    (64_000 / c.bases).min(64)
 }
 
 /// Measures the sides, each in its own bucket.
@@ -234,35 +230,6 @@ fn on_records(meter: &mut Meter, c: &Case) {
     }
 }
 
-/// A tag of many groups. The Rust walks SEQ again for each group, so it is measured only while that takes seconds.
-fn many_groups(meter: &mut Meter, c: &Case, groups: usize) {
-    meter.side(c, "groups-check", "rattle", || {}, |_| assert_eq!(rattle::check(black_box(c)).0, 0));
-    assert_eq!(rattle::check(c), (0, groups, groups));
-    let mut rows = rattle::CallRows::new(c);
-    meter.side(c, "groups-read", "rattle", || {}, |_| assert_eq!(rows.read(black_box(c)), 0));
-
-    let edits: [(&str, fn(&Case) -> original::Tag, fn(&mut TagRows, &Case) -> u8); 3] = [
-        ("groups-mask", original::mask, TagRows::mask),
-        ("groups-drop", original::drop_calls, TagRows::drop_calls),
-        ("groups-cut", original::cut, TagRows::cut),
-    ];
-    for (row, rust, rewrite) in edits {
-        if groups <= GROUPS_FOR_RUST {
-            meter.side(c, row, "rust", || {}, |_| drop(black_box(rust(black_box(c)))));
-        }
-        let mut rows = TagRows::new(c);
-        meter.side(c, row, "rattle", || {}, |_| assert_eq!(rewrite(&mut rows, black_box(c)), 0));
-        assert_eq!(rows.tag(), rust(c).expect("the Rust edits the tag"), "{row} of {groups} groups");
-    }
-
-    let r = Records::new(c, true);
-    let mut left = r.masked.clone();
-    let went = QUICK.mask(&mut left, &r);
-    let mut lent = RecordRow::new(r.masked.len() + GROWTH);
-    meter.side(c, "groups-record", "rattle", || {}, |_| assert_eq!(lent.mask(black_box(&r.masked), black_box(&r)), 0));
-    assert!(lent.answer() == (went, &left), "mask of a record of {groups} groups");
-}
-
 fn building(meter: &mut Meter, c: &Case) {
     meter.side(c, "build", "rust", || {}, |_| drop(black_box(original::build(black_box(c)))));
     let mut rows = TagRows::new(c);
@@ -300,11 +267,6 @@ fn main() {
             measure(&mut meter, &Case::new(bases, density));
         }
     }
-    let mut few = Meter { bucket: meter.bucket, rounds: rounds.min(FEW_ROUNDS) };
-    for groups in [1, 31, 32, 500, 1_000, 5_000] {
-        many_groups(&mut few, &Case::new(16_000, Density::Groups(groups)), groups);
-    }
-    meter.bucket = few.bucket;
     for bases in [150, 151, 1_000, 1_001, 15_999, 16_000] {
         turning(&mut meter, &Case::new(bases, Density::Dense));
     }

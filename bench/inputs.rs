@@ -14,16 +14,13 @@ pub enum Density {
     Dense,
     /// One tracked base in twenty is listed; reads are counted at the informative positions.
     Sparse,
-    /// So many groups, on each of the four letters by turns, with one entry each.
-    Groups(usize),
 }
 
 impl Density {
-    pub fn name(self) -> String {
+    pub fn name(self) -> &'static str {
         match self {
-            Self::Dense => "dense".into(),
-            Self::Sparse => "sparse".into(),
-            Self::Groups(count) => count.to_string(),
+            Self::Dense => "dense",
+            Self::Sparse => "sparse",
         }
     }
 }
@@ -118,14 +115,6 @@ fn evidence(seq: &[u8], density: Density, random: &mut Random) -> MethylationAnn
     MethylationAnnotation { evidence, pattern: ConversionPattern::CToT }
 }
 
-/// A tag of so many groups, each with one entry, at any base of its letter.
-fn grouped(seq: &[u8], groups: usize, random: &mut Random) -> (String, Vec<u8>) {
-    let counts = b"ACGT".map(|letter| seq.iter().filter(|&&base| base == letter).count() as u64);
-    let group = |which: usize| format!("{}+x?,{};", b"ACGT"[which % 4] as char, random.below(counts[which % 4]));
-    let mm = (0..groups).map(group).collect();
-    (mm, (0..groups).map(|which| which as u8).collect())
-}
-
 /// Reads of more than three quarters of the length of SEQ. Half of their C are converted, and one base in twenty is not aligned.
 fn reads(seq: &[u8], random: &mut Random) -> Reads {
     let lengths: Vec<usize> = (0..READS).map(|_| seq.len() - random.below(seq.len() as u64 / 4) as usize).collect();
@@ -174,10 +163,7 @@ impl Case {
         let mut random = Random(88_172_645_463_325_252);
         let seq: Vec<u8> = (0..bases).map(|_| b"ACGT"[random.below(4) as usize]).collect();
         let annotation = evidence(&seq, density, &mut random);
-        let (mm, ml) = match density {
-            Density::Groups(count) => grouped(&seq, count, &mut random),
-            _ => build_mm_ml_tags(&seq, &annotation, MethylationMode::EmSeq).expect("some base is listed"),
-        };
+        let (mm, ml) = build_mm_ml_tags(&seq, &annotation, MethylationMode::EmSeq).expect("some base is listed");
         let places: Vec<u32> = (0..bases as u32).filter(|_| random.one_in(10)).collect();
         let mut masked = seq.clone();
         places.iter().for_each(|&place| masked[place as usize] = b'N');

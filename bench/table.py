@@ -20,7 +20,6 @@ STRANDS = [("reverse", ""), ("forward", "-forward")]
 EXCHANGED = [("mask, ML before MM", "record-exchanged", DENSITIES)]
 # Records that stay as they came. Without tags a record has no density.
 STAYS = [("mask, same SEQ", "record-same", DENSITIES), ("mask, no tags", "record-untagged", ["dense"])]
-GROUPS = ["1", "31", "32", "500", "1000", "5000"]
 TURNED = ["turn", "unpack", "unpack-forward"]
 TURNED_SIZES = ["150", "151", "1000", "1001", "15999", "16000"]
 
@@ -43,9 +42,7 @@ def times(out):
     """The median of the runs for each side, and the largest distance of a run from its median, as a share."""
     runs = [{side: time for side, (_, _, time) in sides(path).items()} for path in glob.glob(os.path.join(out, "timed.*"))]
     median = {side: statistics.median(run[side] for run in runs) for side in runs[0]}
-    # tags of many groups are timed in a few rounds, and their times are not shown
-    shown = [side for side in median if side[0] != "nothing" and not side[0].startswith("groups-")]
-    spread = max(abs(run[side] / median[side] - 1) for run in runs for side in shown)
+    spread = max(abs(run[side] / median[side] - 1) for run in runs for side in median if side[0] != "nothing")
     return median, spread
 
 
@@ -128,20 +125,6 @@ def records(cost):
     return markdown(head, lines)
 
 
-def groups(cost):
-    """The calls on a tag of many groups over 16,000 bases, with one entry each."""
-    head = ["groups", "check", "read"] + [name for row in EDITS for name in (row, "x Rust")] + ["mask, record"]
-
-    def line(count):
-        def side(row, who="rattle"):
-            return f"groups-{row}", "16000", count, who
-
-        edits = [shown for row in EDITS for shown in (number(cost, side(row)), ratio(cost, side(row), side(row, "rust")))]
-        return [f"{int(count):,}", number(cost, side("check")), number(cost, side("read")), *edits, number(cost, side("record"))]
-
-    return markdown(head, [line(count) for count in GROUPS])
-
-
 def short_turned(cost):
     """Only ratios, of turning and unpacking, with a column for each length."""
     head = ["x the Rust's"] + [f"{int(bases):,}" for bases in TURNED_SIZES]
@@ -192,13 +175,11 @@ def main():
     said = f"Largest distance of one of the runs from the median: {100 * spread:.0f} %.\n"
     for name, cost in ("Instructions", count), ("Nanoseconds", time):
         print(f"{name}\n\n{whole(cost)}\n{stored(cost)}\n{records(cost)}")
-    print(f"Instructions, tags of many groups\n\n{groups(count)}")
     print(said)
     if write:
         put("docs/BENCHMARKS.md", "instructions", whole(count))
         put("docs/BENCHMARKS.md", "stored reads", stored(count))
         put("docs/BENCHMARKS.md", "records", records(count))
-        put("docs/BENCHMARKS.md", "groups", groups(count))
         put("docs/BENCHMARKS.md", "times", short(time) + "\n" + said)
         put("docs/BENCHMARKS.md", "ratios", short(count))
 

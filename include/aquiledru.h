@@ -16,12 +16,11 @@
  *   another.
  * - Stack. No theorem bounds it, and a program can end at its stack's guard page. tools/stack-use reads the stack off the machine code, without that of C's
  *   memcpy and memset; docs/STACK.md has the bytes of each call. A call takes at most:
- *     44,000 bytes: aql_stored_drop_masked_modifications, aql_stored_drop_modifications_at, aql_stored_trim_clipped_modifications, aql_stored_mask,
+ *     40,000 bytes: aql_stored_drop_masked_modifications, aql_stored_drop_modifications_at, aql_stored_trim_clipped_modifications, aql_stored_mask,
  *                   aql_stored_drop_calls;
- *     25,000 bytes: aql_drop_modifications_at, aql_session_mask, aql_session_drop_calls, aql_stored_check_tag, aql_stored_read_calls, aql_stored_tally,
+ *     20,000 bytes: aql_drop_modifications_at, aql_session_mask, aql_session_drop_calls, aql_stored_check_tag, aql_stored_read_calls, aql_stored_tally,
  *                   aql_stored_open, aql_stored_cut, aql_transcript, aql_duplex_methylation_tags;
- *      8,000 bytes: aql_drop_masked_modifications, aql_trim_clipped_modifications, aql_session_cut, aql_read_calls;
- *      1,700 bytes: aql_check_tag, aql_tally, aql_session_open, aql_build_mm_ml_tags, aql_build_mm_tag_no_ml;
+ *      3,200 bytes: aql_drop_masked_modifications, aql_trim_clipped_modifications, aql_session_cut, aql_build_mm_ml_tags, aql_build_mm_tag_no_ml;
  *        600 bytes: every other.
  * - Yes and no. A uint8_t that asks for a yes is yes for every value but 0; so is each byte of informative and of read_aligned. An answered yes is 1, a
  *   no 0.
@@ -43,7 +42,7 @@ extern "C" {
 #endif
 
 /* The version, which `tagedit --version` prints and CHANGELOG.md describes. */
-#define AQL_VERSION "0.3.1"
+#define AQL_VERSION "0.3.0"
 
 /* The numbers. With any number except 0 everything that was lent is unchanged. If several apply, the first in this order is returned: 13, 1, 2, 21, 11,
  * 3, 4; then the text from the left, 5 at a header and at each entry 6, 7, 8, 10; after the last group 9, or in a build 20; last 12. The last line of a

@@ -22,8 +22,8 @@ SEED = 20_260
 FROZEN = os.path.join(rust.HERE, "frozen")
 
 # The most requests of each section; a section that is not named is frozen completely.
-MOST = {"short": 400, "random": 600, "malformed": 70, "groups": 6}
-MOST_OF_RECORDS = {"short": 150, "random": 250, "malformed": 30, "groups": 6}
+MOST = {"short": 400, "random": 600, "malformed": 70}
+MOST_OF_RECORDS = {"short": 150, "random": 250, "malformed": 30}
 WHOLE = {"PAT": ("short",)}
 # Boundary requests are large. By call: the most bytes that they take together, with their answers.
 BOUNDARY_BYTES = {

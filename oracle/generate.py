@@ -21,7 +21,7 @@ import models
 import record_requests
 import stated
 from pieces import (
-    HEADERS, ROW_LENGTHS, STORED_HEADERS, ManyGroups, all_listed, letters, listed_at_ends, many_groups, masked_at, near_mls, pick_bytes, places_at_ends, random_seq,
+    HEADERS, ROW_LENGTHS, STORED_HEADERS, all_listed, letters, listed_at_ends, many_groups, masked_at, near_mls, pick_bytes, places_at_ends, random_seq,
     random_tag, rows_over, short_texts, some_places, stored, stored_seq, subsets, words_over,
 )
 
@@ -1025,11 +1025,6 @@ ROWS = {
     "K1.PSES": rows_stored_session,
     **record_requests.ROWS,
 }
-# The calls that take a tag, and how many requests with a tag of many groups each has in a whole run.
-WITH_TAG = [
-    "CALLS", "TALLY", "MASK", "DROP", "CUT", "STEP", "K1.CALLS", "K1.PMASK", "K1.PDROP", "K1.PCUT", "K1.PSES", "K2.RMASK", "K2.RDROP", "K2.RCUT",
-]
-GROUPS = 300
 CALLS = list(SOURCES)
 # These two calls work in place, so the lists lend them no room.
 NO_ROOM_ASKED = ("GATE", "REST")
@@ -1097,7 +1092,6 @@ def sections(call, seed, share):
         "rows": list(ROWS[call]()) if call in ROWS else [],
         "random": list(random_section(call, rng, int(count * share))),
         "malformed": list(malformed(call, rng)),
-        "groups": list(random_section(call, ManyGroups(f"{seed} {call} groups"), int(GROUPS * share))) if call in WITH_TAG else [],
     }
 
 

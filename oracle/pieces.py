@@ -1,19 +1,9 @@
 """Pieces that requests are made of: byte strings, tags, places, and reads as a BAM record stores them."""
 import itertools
-import random
 
 import model
 
 U64 = 2**64 - 1
-
-
-class ManyGroups(random.Random):
-    """A source of chance for long reads with tags of many groups. The library then makes tables of SEQ, once for a tag."""
-
-
-def draws_many(rng):
-    return isinstance(rng, ManyGroups)
-
 
 # ---- Rows ----------------------------------------------------------------------------------------
 
@@ -80,28 +70,14 @@ def short_texts(symbols=4, tokens=4):
     yield from words_over(SYMBOLS, min(symbols, 3))
 
 
-# The tables are made from 1,024 bases, 128 bytes of text and 32 groups on, and SEQ is indexed by blocks of 240 bases.
-LONG_LENGTHS = (1_023, 1_024, 1_025, 1_199, 1_200, 1_201, 1_440, 1_679, 2_161)
-GROUP_COUNTS = (31, 32, 33, 40)
-
-
-def random_length(rng, lengths):
-    return rng.choice(LONG_LENGTHS if draws_many(rng) else lengths)
-
-
 def random_seq(rng):
-    alphabet = b"AACCCCCCGGGTTNnccgU\0"
-    if draws_many(rng):
-        alphabet = rng.choice((alphabet, b"ACGT", b"A" * 300 + b"C"))
-    return pick_bytes(rng, alphabet, random_length(rng, (0, 1, 2, 3, 5, 8, 13, 21, 34)))
+    return pick_bytes(rng, b"AACCCCCCGGGTTNnccgU\0", rng.choice((0, 1, 2, 3, 5, 8, 13, 21, 34)))
 
 
 def random_group(rng, seq, headers):
     header = rng.choice(headers)
     tracked = model.tracked_places(seq, header[:1].upper())
     chance, fields, bare = rng.random(), [header], 0
-    if draws_many(rng):
-        chance *= rng.choice((0.002, 0.01, 0.1))
     for _ in tracked:
         if rng.random() < chance:
             zeros = b"0" * (rng.randint(1, 3) if rng.random() < 0.05 else 0)
@@ -130,8 +106,7 @@ def damaged(rng, mm, ml):
 
 
 def random_tag(rng, seq, headers=HEADERS):
-    count = rng.choice(GROUP_COUNTS if draws_many(rng) else (1, 1, 1, 2, 2, 3))
-    mm = b"".join(random_group(rng, seq, headers) for _ in range(count))
+    mm = b"".join(random_group(rng, seq, headers) for _ in range(rng.choice((1, 1, 1, 2, 2, 3))))
     ml = None if rng.random() < 0.25 else rng.randbytes(len(fitting_ml(mm)))
     return damaged(rng, mm, ml) if rng.random() < 0.25 else (mm, ml)
 
@@ -168,8 +143,7 @@ def masked_at(seq, places):
 
 
 def some_places(rng, length):
-    counts = (0, 1, 6, 60, 600) if draws_many(rng) else (0, 1, 1, 2, 3, 6)
-    places = [rng.randint(0, length + 2) for _ in range(rng.choice(counts))]
+    places = [rng.randint(0, length + 2) for _ in range(rng.choice((0, 1, 1, 2, 3, 6)))]
     if rng.random() < 0.05:
         places.append(rng.choice((U64, 2**63, 2**32, 65_536)))
     return places
@@ -190,6 +164,5 @@ def stored(seq, reverse, spare=0):
 
 def stored_seq(rng):
     """Bases in read orientation, of all sixteen letters."""
-    rare = b"A" * 300 + b"C" if draws_many(rng) else b"AACCCCCCGGGTTN"
-    alphabet = rng.choice((b"AACCCCCCGGGTTN", rare, model.LETTERS, b"CGN"))
-    return pick_bytes(rng, alphabet, random_length(rng, (0, 1, 2, 3, 3, 4, 5, 7, 8, 13, 21, 34, 35)))
+    alphabet = rng.choice((b"AACCCCCCGGGTTN", b"AACCCCCCGGGTTN", model.LETTERS, b"CGN"))
+    return pick_bytes(rng, alphabet, rng.choice((0, 1, 2, 3, 3, 4, 5, 7, 8, 13, 21, 34, 35)))

@@ -11,7 +11,7 @@ import model
 import models
 import records
 from pieces import (
-    ROW_LENGTHS, STORED_HEADERS, U64, all_listed, draws_many, letters, listed_at_ends, many_groups, masked_at, pick_bytes, places_at_ends, random_tag, some_places,
+    ROW_LENGTHS, STORED_HEADERS, U64, all_listed, letters, listed_at_ends, many_groups, masked_at, pick_bytes, places_at_ends, random_tag, some_places,
     stored_seq,
 )
 
@@ -145,8 +145,6 @@ def with_room(rng, record, ask):
 
 
 def random_read(rng):
-    if draws_many(rng):
-        return stored_seq(rng)
     chance = rng.random()
     if chance < 0.004:
         return pick_bytes(rng, b"AACCCGGTN", rng.choice((150, 255, 256, 257, 1_000, 1_024, 1_025)))

@@ -9,7 +9,6 @@ ghost use Rattle.samtags.specs.Spots.{tracked};
 ghost use Rattle.samtags.specs.Reading.{read_spots, read_group, read_groups};
 ghost use Rattle.fields.specs.Fields.{field_of};
 ghost use Rattle.strides.specs.Counts.{Told};
-ghost use Rattle.tag_index.specs.Index.{Indexed};
 ghost use Rattle.drafting.specs.Walks.{EntriesEdited, GroupEdited, TagEdited, edited_refusal, pen_of, cursor_at};
 ghost use Rattle.changing.specs.Windows.{held_in, is_marked, denied_in, window_edit};
 
@@ -74,7 +73,6 @@ impl Edited {
 fn edit_entries(
     seq: &[u8],
     after: &[u8],
-    index: &[u8],
     marks: &[u8],
     text: &[u8],
     ml: &[u8],
@@ -84,8 +82,7 @@ fn edit_entries(
     out: &mut [u8],
     ml_out: &mut [u8],
 ) -> Edited
-    requires seq_len_bound { (length seq.now ≤ 16000) × (length text.now ≤ 65536) × (length ml.now ≤ 65536) × Told window after.now seq.now
-        × Indexed window.lo after.now seq.now index.now }
+    requires seq_len_bound { (length seq.now ≤ 16000) × (length text.now ≤ 65536) × (length ml.now ≤ 65536) × Told window after.now seq.now }
     requires text_in_bounds { start.at + length (up_to semicolon (drop start.at text.now)) < length text.now }
     requires text_len { length (field_of (drop start.at text.now)) ≡ 0 }
     requires used_in_bounds { (start.used ≤ length ml.now) × (start.end ≤ 65536) × (start.kept ≤ 65536) }
@@ -103,9 +100,7 @@ fn edit_entries(
     while text[at] == b',' {
         let field = fields::next_field(text, at + 1);
         let left = ml.len() - used;
-        let reached = entries::read_entry(
-            seq, after, index, marks, field, window, kind, from, left,
-        );
+        let reached = entries::read_entry(seq, after, marks, field, window, kind, from, left);
         let Reached::On(place, passed) = reached else {
             return Edited::Refused(reached.refusal());
         };
@@ -123,7 +118,6 @@ fn edit_entries(
 fn edit_group(
     seq: &[u8],
     after: &[u8],
-    index: &[u8],
     marks: &[u8],
     text: &[u8],
     ml: &[u8],
@@ -134,8 +128,7 @@ fn edit_group(
     out: &mut [u8],
     ml_out: &mut [u8],
 ) -> Edited
-    requires seq_len_bound { (length seq.now ≤ 16000) × (length text.now ≤ 65536) × (length ml.now ≤ 65536) × Told window after.now seq.now
-        × Indexed window.lo after.now seq.now index.now }
+    requires seq_len_bound { (length seq.now ≤ 16000) × (length text.now ≤ 65536) × (length ml.now ≤ 65536) × Told window after.now seq.now }
     requires text_in_bounds { at + length (up_to semicolon (drop at text.now)) < length text.now }
     requires used_in_bounds { used ≤ length ml.now }
     ensures { GroupEdited (window_edit window.lo after.now marks.now) text.now ml.now at used
@@ -155,9 +148,7 @@ fn edit_group(
         end: end,
         kept: 0,
     };
-    let edited = edit_entries(
-        seq, after, index, marks, text, ml, window, kind, from, out, ml_out,
-    );
+    let edited = edit_entries(seq, after, marks, text, ml, window, kind, from, out, ml_out);
     let Edited::To(stop) = edited else {
         return edited;
     };
@@ -181,26 +172,25 @@ fn at_most(n: usize, most: usize) -> usize
     most
 }
 
-// Edits all groups of a text that ends in ';', with an index of SEQ or an empty one. Each group is written where the last one ended. After the last
-// group no value of ML may be left over.
-fn edit_all(
+// Edits all groups of a text that ends in ';'. Each is written where the last one ended. After the last group no value of ML may be left over.
+pub fn edit_groups(
     seq: &[u8],
     after: &[u8],
-    index: &[u8],
     marks: &[u8],
     text: &[u8],
     ml: &[u8],
-    window: Window,
+    lo: usize,
     has_ml: bool,
     out: &mut [u8],
     ml_out: &mut [u8],
 ) -> Edited
-    requires { (length seq.now ≤ 16000) × (length text.now ≤ 65536) × (length ml.now ≤ 65536) × (last_or 0 text.now ≡ semicolon)
-        × Told window after.now seq.now × Indexed window.lo after.now seq.now index.now }
-    ensures { TagEdited (window_edit window.lo after.now marks.now)
+    requires { (length seq.now ≤ 16000) × (length text.now ≤ 65536) × (length ml.now ≤ 65536) × (last_or 0 text.now ≡ semicolon) }
+    ensures { TagEdited (window_edit lo after.now marks.now)
         (read_groups has_ml (is_marked marks.now) seq.now (closed_by semicolon text.now) ml.now)
         out.old ml_out.old result out.new ml_out.new }
 {
+    // SEQ and `after` are compared once, for all entries of all groups; for a drop they are the same.
+    let window = windows::window_of(seq, after, lo);
     let mut c = Cursor {
         at: 0,
         used: 0,
@@ -213,7 +203,6 @@ fn edit_all(
         let edited = edit_group(
             seq,
             after,
-            index,
             marks,
             text,
             ml,
@@ -238,58 +227,4 @@ fn edit_all(
         return Edited::Refused(Refusal(9));
     }
     Edited::To(c)
-}
-
-// Edits all groups of a text with many of them: SEQ is indexed once for all.
-fn edit_indexed(
-    seq: &[u8],
-    after: &[u8],
-    marks: &[u8],
-    text: &[u8],
-    ml: &[u8],
-    window: Window,
-    has_ml: bool,
-    out: &mut [u8],
-    ml_out: &mut [u8],
-) -> Edited
-    requires { (length seq.now ≤ 16000) × (length text.now ≤ 65536) × (length ml.now ≤ 65536) × (last_or 0 text.now ≡ semicolon)
-        × Told window after.now seq.now }
-    ensures { TagEdited (window_edit window.lo after.now marks.now)
-        (read_groups has_ml (is_marked marks.now) seq.now (closed_by semicolon text.now) ml.now)
-        out.old ml_out.old result out.new ml_out.new }
-{
-    let mut index = tag_index::no_index();
-    tag_index::fill(seq, after, window, &mut index);
-    edit_all(
-        seq, after, &index, marks, text, ml, window, has_ml, out, ml_out,
-    )
-}
-
-// Edits all groups of a text that ends in ';'.
-pub fn edit_groups(
-    seq: &[u8],
-    after: &[u8],
-    marks: &[u8],
-    text: &[u8],
-    ml: &[u8],
-    lo: usize,
-    has_ml: bool,
-    out: &mut [u8],
-    ml_out: &mut [u8],
-) -> Edited
-    requires { (length seq.now ≤ 16000) × (length text.now ≤ 65536) × (length ml.now ≤ 65536) × (last_or 0 text.now ≡ semicolon) }
-    ensures { TagEdited (window_edit lo after.now marks.now)
-        (read_groups has_ml (is_marked marks.now) seq.now (closed_by semicolon text.now) ml.now)
-        out.old ml_out.old result out.new ml_out.new }
-{
-    // SEQ and `after` are compared once, for all entries of all groups; for a drop they are the same.
-    let window = windows::window_of(seq, after, lo);
-    let many = strides::has_many_groups(seq, text);
-    if many {
-        return edit_indexed(seq, after, marks, text, ml, window, has_ml, out, ml_out);
-    }
-    let none: [u8; 0] = [];
-    edit_all(
-        seq, after, &none, marks, text, ml, window, has_ml, out, ml_out,
-    )
 }

@@ -6,7 +6,6 @@ ghost use Rattle.samtags.specs.Reading.{read_entry, values_if};
 ghost use Rattle.samtags.specs.Text.{base_of, ends_in_question};
 ghost use Rattle.samtags.specs.Writing.{entry_text};
 ghost use Rattle.strides.specs.Counts.{Told, between, held_between};
-ghost use Rattle.tag_index.specs.Index.{Indexed};
 ghost use Rattle.places.specs.Walk.{tracked_from};
 ghost use Rattle.entries.specs.Answers.{reached_says, reached_refusal, past_by};
 ghost use Rattle.changing.specs.Drafts.{passing, with_passed, draft, entry_put};
@@ -70,30 +69,21 @@ fn one_more(n: Ordinal, yes: bool) -> Ordinal
     n
 }
 
-// Where a walk may begin: after what is passed by blocks. Without an index a few bases are passed faster one by one.
-fn ahead(
-    seq: &[u8],
-    after: &[u8],
-    index: &[u8],
-    window: Window,
-    base: u8,
-    from: usize,
-    skip: usize,
-) -> Stride
-    requires { (from ≤ length seq.now) × (length seq.now ≤ 16000) × Told window after.now seq.now
-        × Indexed window.lo after.now seq.now index.now }
+// Where a walk may begin: after whole blocks, if there are more than a few bases to pass and the base is not 'N'; else at `from`.
+fn ahead(seq: &[u8], after: &[u8], window: Window, base: u8, from: usize, skip: usize) -> Stride
+    requires { (from ≤ length seq.now) × (length seq.now ≤ 16000) × Told window after.now seq.now }
     ensures { (from ≤ result.place) × (result.place ≤ length seq.now) × (result.passed ≤ skip)
         × (result.passed ≡ length (between base seq.now from result.place))
         × (result.held ≡ held_between window.lo after.now base seq.now from result.place) }
 {
-    if index.len() == 0 && skip < 6 {
+    if skip < 6 || base == b'N' {
         return Stride {
             place: from,
             passed: 0,
             held: 0,
         };
     }
-    tag_index::pass_far(seq, after, index, window, base, from, skip)
+    strides::pass_blocks(seq, after, window, base, from, skip)
 }
 
 // Whether a passed base of SEQ is still of its kind. If nothing changed, the base is not looked at again.
@@ -111,18 +101,16 @@ fn stays(after: &[u8], window: Window, base: u8, place: Place) -> bool
 pub fn pass_tracked(
     seq: &[u8],
     after: &[u8],
-    index: &[u8],
     window: Window,
     base: u8,
     from: Place,
     skip: Ordinal,
 ) -> Reached
-    requires { (from.0 ≤ length seq.now) × (length seq.now ≤ 16000) × Told window after.now seq.now
-        × Indexed window.lo after.now seq.now index.now }
+    requires { (from.0 ≤ length seq.now) × (length seq.now ≤ 16000) × Told window after.now seq.now }
     ensures { reached_says result
         ≡ passing (held_in window.lo after.now base) 0 skip.0 (tracked_from base from.0 seq.now) }
 {
-    let start = ahead(seq, after, index, window, base, from.0, skip.0);
+    let start = ahead(seq, after, window, base, from.0, skip.0);
     let mut ordinal = Ordinal(start.passed);
     let mut held = Ordinal(start.held);
     let mut pos = Place(start.place);
@@ -147,7 +135,6 @@ pub fn pass_tracked(
 pub fn read_entry(
     seq: &[u8],
     after: &[u8],
-    index: &[u8],
     marks: &[u8],
     field: &[u8],
     window: Window,
@@ -155,8 +142,7 @@ pub fn read_entry(
     from: Place,
     left: usize,
 ) -> Reached
-    requires { (from.0 ≤ length seq.now) × (length seq.now ≤ 16000) × Told window after.now seq.now
-        × Indexed window.lo after.now seq.now index.now }
+    requires { (from.0 ≤ length seq.now) × (length seq.now ≤ 16000) × Told window after.now seq.now }
     ensures { reached_says result
         ≡ with_passed (held_in window.lo after.now kind.base) (value field.now)
         (tracked_from kind.base from.0 seq.now)
@@ -167,7 +153,7 @@ pub fn read_entry(
     let Skip::Of(skip) = read else {
         return Reached::Refused(read.refusal());
     };
-    let reached = pass_tracked(seq, after, index, window, kind.base, from, Ordinal(skip));
+    let reached = pass_tracked(seq, after, window, kind.base, from, Ordinal(skip));
     let Reached::On(place, _) = reached else {
         return reached;
     };

@@ -1,4 +1,4 @@
--- Laws of a walk that needs no places: its counts after one more entry, one more letter of SEQ and one more group.
+-- Laws of a walk that needs no places: its counts after one more entry and after one more group.
 -- Assumes nothing.
 use mathlib.Core.Path.{◌≡◌, refl, ◌∙◌, ap, sym}
 use Prim.Native.Nat.{◌+◌, ◌-◌, ◌<◌, ◌≤◌, min, suc, ℕ}
@@ -8,13 +8,11 @@ use mathlib.Core.Bool.{Bool, ◌&&◌, cond, false, not, true}
 use mathlib.Core.List.{List, [], ◌++◌, ◌∷◌, map}
 use mathlib.Core.Logic.{⊎_elim}
 use lib.Dec.{eqb}
-use lib.ListN.{drop, drop_of_length-le, get_or, get_or-replicate, length, length-drop, length-take, replicate, set, take}
-use lib.Seq.{get_or-set_other, get_or-set_same, take_all}
-use borrow.Author.Tests.{eqb-false, eqb-true, le-leb, lt-leb}
-use Rattle.lent.proofs.Lists.{count_more, drop_here, filter_ext, filter_length}
+use lib.ListN.{drop, drop_of_length-le, get_or, length, length-drop, take}
+use borrow.Author.Tests.{le-leb, lt-leb}
+use Rattle.lent.proofs.Lists.{drop_here}
 use Rattle.lent.proofs.Outcome.{done_inj, need_rest, need_test}
-use Rattle.lent.proofs.Tests.{by-test}
-use Rattle.lent.specs.Lists.{every, filter, last_or}
+use Rattle.lent.specs.Lists.{every, last_or}
 use Rattle.lent.specs.Outcome.{Outcome, and_then, done, need, on_done, refuse, refused}
 use Rattle.lent.specs.declared.Refusal.{Refusal}
 use Rattle.samtags.proofs.Places.{places_length}
@@ -28,13 +26,12 @@ use Rattle.samtags.specs.Text.{base_of, closed_by, ends_in_question, led_by, up_
 use Rattle.places.proofs.TextLaws.{calls_none, entry_refused, group_on, groups_at, turn_on, turn_refused}
 use Rattle.places.proofs.WalkLaws.{entry_six}
 use Rattle.fields.specs.Fields.{field_of}
-use Rattle.strides.proofs.StrideLaws.{holds_own, tracked_count}
 use Rattle.measuring.specs.contracts.Counted.{the_type}
 use Rattle.measuring.specs.declared.Counted.{Counted}
 use Rattle.measuring.specs.declared.Counted.TheVariants.{To, Refused, Unsure}
 use denote.Enum.Declared.{tag_of}
 use types.Run.{OneOf}
-use Rattle.measuring.specs.Counting.{LettersCounted, calls_of, group_counted, groups_counted, spots_counted}
+use Rattle.measuring.specs.Counting.{calls_of, group_counted, groups_counted, spots_counted}
 
 -- an answer that is not `To`, as the code knows it
 abbrev pub NotTo : Counted → Type 0
@@ -123,42 +120,6 @@ count_last n places ml = rw (calls_none places, add-zero n)
 pub tracked_short : (b : ℕ) (seq : List ℕ) → length (tracked b seq) ≤ length seq
 unfolding tracked
 tracked_short b seq = places_length (holds b) 0 seq
-
--- ---- a table of letters
-
--- at each letter how many of it are among the first i of SEQ
-abbrev pub LettersTo : List ℕ → ℕ → List ℕ → Type 0
-LettersTo seq i table = (b : ℕ) → b < 256 → get_or table b 0 ≡ length (filter (λ x. eqb x b) (take i seq))
-
-pub letters_none : (seq : List ℕ) → LettersTo seq 0 (replicate 256 0)
-letters_none seq b h = get_or-replicate 256 b 0 0 h
-
-module _ (seq : List ℕ) (i : ℕ) (table : List ℕ) (e : LettersTo seq i table) where
-  pub letters_few : (b : ℕ) → b < 256 → get_or table b 0 ≤ i
-  letters_few b h = omega (arith, e b h, filter_length (λ (x : ℕ). eqb x b) (take i seq), length-take i seq)
-
-  -- with the letter b, of which there is one more
-  pub letters_more : (b n : ℕ) → i < length seq → get_or seq i 0 ≡ b → b < length table → n ≡ get_or table b 0 + 1 → LettersTo seq (i + 1) (set table b n)
-  letters_more b n l same inside one c h =
-      let count = count_more (λ x. eqb x c) seq i 0 l in
-      let more : (t : Bool) → eqb (get_or seq i 0) c ≡ t → length (filter (λ x. eqb x c) (take (i + 1) seq)) ≡ get_or table c 0 + cond t 1 0 =
-      λ t q. count ∙ (λ j. sym (e c h) j + cond (q j) 1 0) in
-      by-test (eqb (get_or seq i 0) c)
-      (λ t.
-      let here : b ≡ c = sym same ∙ eqb-true _ c t in
-      ap (λ (k : ℕ). get_or (set table b n) k 0) (sym here) ∙ get_or-set_same table b n 0 inside ∙ one ∙ ap (λ (k : ℕ). get_or table k 0 + 1) here ∙ sym (more true t))
-      (λ t. get_or-set_other table b c n 0 (λ z. eqb-false _ c t (same ∙ sym z)) ∙ omega (arith, more false t))
-
-  -- after the last letter
-  pub letters_all : length seq ≤ i → length table ≡ 256 → LettersCounted seq table
-  letters_all l whole b h other =
-      e b (omega arith)
-      ∙ ap (λ (s : List ℕ). length (filter (λ x. eqb x b) s)) (take_all i seq l)
-      ∙ ap length (filter_ext (λ (x : ℕ). eqb x b) (holds b) (λ x. sym (holds_own b x other)) seq)
-      ∙ sym (tracked_count b seq)
-
-pub no_table : (seq : List ℕ) → LettersCounted seq []
-no_table seq b h other = absurd (omega arith)
 
 -- ---- one group: its header h, k values to an entry, over the base b
 

@@ -1,10 +1,10 @@
 -- The answer of a walk that needs no places, step by step. These are contracts of support functions; no promise rests on them.
 -- Assumes nothing.
-use Rattle.std.specs.Prelude.{ℕ, ◌+◌, ◌≤◌, ◌<◌, ◌≡◌, Bool, true, List, [], ◌∷◌, length, drop, get_or}
+use Rattle.std.specs.Prelude.{ℕ, ◌+◌, ◌≤◌, ◌≡◌, Bool, true, List, [], ◌∷◌, length, drop}
 use Rattle.lent.specs.Outcome.{Outcome, refused, done, on_done, refusal}
 use Rattle.lent.specs.declared.Refusal.{Refusal}
 use Rattle.samtags.specs.Text.{up_to}
-use Rattle.samtags.specs.Spots.{Spot, Group, calls_in, tracked}
+use Rattle.samtags.specs.Spots.{Spot, Group, calls_in}
 use Rattle.measuring.specs.declared.Count.{Count}
 use Rattle.measuring.specs.declared.Counted.{Counted}
 use Rattle.measuring.specs.declared.Counted.TheVariants.{To, Refused, Unsure}
@@ -15,10 +15,6 @@ counted_refusal (Refused r) = r
 counted_refusal Unsure = refusal 0
 
 -- ---- what is counted
-
--- a table of letters: at each letter that it reaches to, other than 'N', how many of it SEQ has; an empty table says nothing
-abbrev pub LettersCounted : List ℕ → List ℕ → Type 0
-LettersCounted seq table = (b : ℕ) → b < length table → (b ≡ 78 → ⊥) → get_or table b 0 ≡ length (tracked b seq)
 
 -- the number of calls after those of a group's spots, and the rest of ML
 abbrev pub spots_counted : ℕ → List Spot × List ℕ → ℕ × List ℕ

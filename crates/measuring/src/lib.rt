@@ -1,14 +1,12 @@
 // A first walk over a tag that needs no places. Whether a tag is refused with 3 to 9 depends on how many bases of a group's letter SEQ has, not on
-// their places. So they are counted once for each group, or for a tag of many groups once for all of them, and no entry's base is looked up.
-// A support crate: its functions may have a `requires`.
+// their places. So they are counted once for each group, and no entry's base is looked up. A support crate: its functions may have a `requires`.
 ghost use Rattle.std.specs.Prelude.{◌≡◌, Bool, cond, false, List, [], ℕ, ◌+◌, ◌≤◌, ◌<◌, length, drop};
 ghost use Rattle.lent.specs.Lists.{last_or};
 ghost use Rattle.samtags.specs.Bytes.{comma, semicolon};
 ghost use Rattle.samtags.specs.Text.{up_to, led_by, closed_by};
-ghost use Rattle.samtags.specs.Spots.{tracked};
 ghost use Rattle.samtags.specs.Reading.{nowhere, read, read_spots, read_group, read_groups};
 ghost use Rattle.fields.specs.Fields.{field_of};
-ghost use Rattle.measuring.specs.Counting.{counted_refusal, EntriesCounted, GroupCounted, LettersCounted, TagCounted};
+ghost use Rattle.measuring.specs.Counting.{counted_refusal, EntriesCounted, GroupCounted, TagCounted};
 
 use lent::Refusal;
 use numbers::Skip;
@@ -42,32 +40,6 @@ impl Counted {
             Counted::Unsure => Refusal(0),
         }
     }
-}
-
-// How many of each letter SEQ has, in the entry of the letter's value. SEQ has at most 16,000 bases, so u16 is enough.
-fn count_letters(seq: &[u8]) -> [u16; 256]
-    requires { length seq.now ≤ 16000 }
-    ensures { LettersCounted seq.now result }
-{
-    let mut table: [u16; 256] = [0; 256];
-    let mut i = 0;
-    while i < seq.len() {
-        let b = seq[i] as usize;
-        table[b] = table[b] + 1;
-        i += 1;
-    }
-    table
-}
-
-// How many bases of SEQ a group on the base counts. An empty table has no entry, and for 'N' every base counts: neither is looked up.
-fn how_many(seq: &[u8], table: &[u16], base: u8) -> usize
-    requires { (length seq.now ≤ 16000) × LettersCounted seq.now table.now }
-    ensures { result ≡ length (tracked base seq.now) }
-{
-    if base == b'N' || table.len() <= base as usize {
-        return strides::how_many(seq, base);
-    }
-    table[base as usize] as usize
 }
 
 // Counts a group's entries, from the separator at the cursor on, up to the ';' that closes the group. SEQ has `all` bases of the group's kind.
@@ -113,7 +85,6 @@ fn count_entries(text: &[u8], ml: &[u8], values: usize, all: usize, start: Count
 // Counts the group that begins at the cursor, up to and including its ';'. `marked`: some calls are to be dropped.
 fn count_group(
     seq: &[u8],
-    table: &[u16],
     text: &[u8],
     ml: &[u8],
     has_ml: bool,
@@ -123,7 +94,6 @@ fn count_group(
     requires seq_len_bound { (length seq.now ≤ 16000) × (length text.now ≤ 65536) × (length ml.now ≤ 65536) }
     requires text_in_bounds { start.at + length (up_to semicolon (drop start.at text.now)) < length text.now }
     requires used_in_bounds { (start.used ≤ length ml.now) × (start.group ≤ start.at) × (start.calls ≤ start.at) }
-    requires letters_counted { LettersCounted seq.now table.now }
     ensures { (named : ℕ → Bool) → (marked ≡ false → named ≡ nowhere)
         → GroupCounted marked text.now ml.now start
         (read_group has_ml named seq.now (up_to semicolon (drop start.at text.now)) (drop start.used ml.now))
@@ -140,7 +110,7 @@ fn count_group(
     if marked && !may_drop {
         return Counted::Unsure;
     }
-    let all = how_many(seq, table, base);
+    let all = strides::how_many(seq, base);
     let entries = Count {
         at: at + header.len(),
         used: start.used,
@@ -160,16 +130,8 @@ fn count_group(
 }
 
 // Counts all groups of a text that ends in ';'. After the last one no value of ML may be left over.
-fn count_groups(
-    seq: &[u8],
-    table: &[u16],
-    text: &[u8],
-    ml: &[u8],
-    has_ml: bool,
-    marked: bool,
-) -> Counted
-    requires { (length seq.now ≤ 16000) × (length text.now ≤ 65536) × (length ml.now ≤ 65536) × (last_or 0 text.now ≡ semicolon)
-        × LettersCounted seq.now table.now }
+fn count_groups(seq: &[u8], text: &[u8], ml: &[u8], has_ml: bool, marked: bool) -> Counted
+    requires { (length seq.now ≤ 16000) × (length text.now ≤ 65536) × (length ml.now ≤ 65536) × (last_or 0 text.now ≡ semicolon) }
     ensures { (named : ℕ → Bool) → (marked ≡ false → named ≡ nowhere)
         → TagCounted marked (read_groups has_ml named seq.now (closed_by semicolon text.now) ml.now) result }
 {
@@ -180,7 +142,7 @@ fn count_groups(
         calls: 0,
     };
     while c.at < text.len() {
-        let counted = count_group(seq, table, text, ml, has_ml, marked, c);
+        let counted = count_group(seq, text, ml, has_ml, marked, c);
         let Counted::To(next) = counted else {
             return counted;
         };
@@ -190,16 +152,6 @@ fn count_groups(
         return Counted::Refused(Refusal(9));
     }
     Counted::To(c)
-}
-
-// Counts all groups of a text that has many. The letters of SEQ are counted once for all of them.
-fn count_by_table(seq: &[u8], text: &[u8], ml: &[u8], has_ml: bool, marked: bool) -> Counted
-    requires { (length seq.now ≤ 16000) × (length text.now ≤ 65536) × (length ml.now ≤ 65536) × (last_or 0 text.now ≡ semicolon) }
-    ensures { (named : ℕ → Bool) → (marked ≡ false → named ≡ nowhere)
-        → TagCounted marked (read_groups has_ml named seq.now (closed_by semicolon text.now) ml.now) result }
-{
-    let table = count_letters(seq);
-    count_groups(seq, &table, text, ml, has_ml, marked)
 }
 
 // Checks a whole tag for 3 to 9, and counts its groups and calls. Without ML the ML row is empty.
@@ -216,10 +168,5 @@ pub fn count_tag(seq: &[u8], text: &[u8], ml: &[u8], has_ml: bool, marked: bool)
     if !closed {
         return Counted::Refused(Refusal(4));
     }
-    let many = strides::has_many_groups(seq, text);
-    if many {
-        return count_by_table(seq, text, ml, has_ml, marked);
-    }
-    let none: [u16; 0] = [];
-    count_groups(seq, &none, text, ml, has_ml, marked)
+    count_groups(seq, text, ml, has_ml, marked)
 }

@@ -11,7 +11,6 @@ ghost use Rattle.fields.specs.Fields.{field_of};
 ghost use Rattle.changing.specs.Drafts.{draft, entry_put};
 ghost use Rattle.changing.specs.Windows.{held_in, is_marked, denied_in, window_edit};
 ghost use Rattle.strides.specs.Counts.{Told};
-ghost use Rattle.tag_index.specs.Index.{Indexed};
 ghost use Rattle.drafting.specs.Walks.{EntriesEdited, GroupEdited, TagEdited};
 
 use drafting::{Cursor, Edited};
@@ -67,7 +66,6 @@ fn put_entry(
 fn edit_entries(
     seq: &[u8],
     after: &[u8],
-    index: &[u8],
     marks: &[u8],
     window: Window,
     kind: Kind,
@@ -75,8 +73,7 @@ fn edit_entries(
     text: &mut [u8],
     ml: &mut [u8],
 ) -> Edited
-    requires seq_len_bound { (length seq.now ≤ 16000) × (length text.old ≤ 65536) × (length ml.old ≤ 65536) × Told window after.now seq.now
-        × Indexed window.lo after.now seq.now index.now }
+    requires seq_len_bound { (length seq.now ≤ 16000) × (length text.old ≤ 65536) × (length ml.old ≤ 65536) × Told window after.now seq.now }
     requires text_in_bounds { start.at + length (up_to semicolon (drop start.at text.old)) < length text.old }
     requires text_len { length (field_of (drop start.at text.old)) ≡ 0 }
     requires used_in_bounds { (start.used ≤ length ml.old) × (start.end ≤ start.at) × (start.kept ≤ start.used) }
@@ -94,9 +91,7 @@ fn edit_entries(
         let left = ml.len() - used;
         let field = fields::next_field(text, at + 1);
         let width = field.len();
-        let reached = entries::read_entry(
-            seq, after, index, marks, field, window, kind, from, left,
-        );
+        let reached = entries::read_entry(seq, after, marks, field, window, kind, from, left);
         let Reached::On(place, passed) = reached else {
             return Edited::Refused(reached.refusal());
         };
@@ -113,7 +108,6 @@ fn edit_entries(
 fn edit_group(
     seq: &[u8],
     after: &[u8],
-    index: &[u8],
     marks: &[u8],
     window: Window,
     has_ml: bool,
@@ -122,8 +116,7 @@ fn edit_group(
     text: &mut [u8],
     ml: &mut [u8],
 ) -> Edited
-    requires seq_len_bound { (length seq.now ≤ 16000) × (length text.old ≤ 65536) × (length ml.old ≤ 65536) × Told window after.now seq.now
-        × Indexed window.lo after.now seq.now index.now }
+    requires seq_len_bound { (length seq.now ≤ 16000) × (length text.old ≤ 65536) × (length ml.old ≤ 65536) × Told window after.now seq.now }
     requires text_in_bounds { at + length (up_to semicolon (drop at text.old)) < length text.old }
     requires used_in_bounds { used ≤ length ml.old }
     ensures { GroupEdited (window_edit window.lo after.now marks.now) text.old ml.old at used
@@ -144,7 +137,7 @@ fn edit_group(
         end: width,
         kept: 0,
     };
-    let edited = edit_entries(seq, after, index, marks, window, kind, start, text, ml);
+    let edited = edit_entries(seq, after, marks, window, kind, start, text, ml);
     let Edited::To(stop) = edited else {
         return edited;
     };
@@ -158,24 +151,24 @@ fn edit_group(
     })
 }
 
-// Edits all groups of a text that ends in ';', with an index of SEQ or an empty one. Each group is written where the last one ended, into the rows from
-// there on. After the last group no value of ML may be left over.
-fn edit_all(
+// Edits all groups of a text that ends in ';'. Each is written where the last one ended, into the rows from there on. After the last group no value
+// of ML may be left over.
+pub fn edit_groups(
     seq: &[u8],
     after: &[u8],
-    index: &[u8],
     marks: &[u8],
-    window: Window,
+    lo: usize,
     has_ml: bool,
     text: &mut [u8],
     ml: &mut [u8],
 ) -> Edited
-    requires { (length seq.now ≤ 16000) × (length text.old ≤ 65536) × (length ml.old ≤ 65536) × (last_or 0 text.old ≡ semicolon)
-        × Told window after.now seq.now × Indexed window.lo after.now seq.now index.now }
-    ensures { TagEdited (window_edit window.lo after.now marks.now)
+    requires { (length seq.now ≤ 16000) × (length text.old ≤ 65536) × (length ml.old ≤ 65536) × (last_or 0 text.old ≡ semicolon) }
+    ensures { TagEdited (window_edit lo after.now marks.now)
         (read_groups has_ml (is_marked marks.now) seq.now (closed_by semicolon text.old) ml.old)
         text.old ml.old result text.new ml.new }
 {
+    // SEQ and `after` are compared once, for all entries of all groups; for a drop they are the same.
+    let window = windows::window_of(seq, after, lo);
     let mut c = Cursor {
         at: 0,
         used: 0,
@@ -188,7 +181,6 @@ fn edit_all(
         let edited = edit_group(
             seq,
             after,
-            index,
             marks,
             window,
             has_ml,
@@ -211,50 +203,4 @@ fn edit_all(
         return Edited::Refused(Refusal(9));
     }
     Edited::To(c)
-}
-
-// Edits all groups of a text with many of them: SEQ is indexed once for all.
-fn edit_indexed(
-    seq: &[u8],
-    after: &[u8],
-    marks: &[u8],
-    window: Window,
-    has_ml: bool,
-    text: &mut [u8],
-    ml: &mut [u8],
-) -> Edited
-    requires { (length seq.now ≤ 16000) × (length text.old ≤ 65536) × (length ml.old ≤ 65536) × (last_or 0 text.old ≡ semicolon)
-        × Told window after.now seq.now }
-    ensures { TagEdited (window_edit window.lo after.now marks.now)
-        (read_groups has_ml (is_marked marks.now) seq.now (closed_by semicolon text.old) ml.old)
-        text.old ml.old result text.new ml.new }
-{
-    let mut index = tag_index::no_index();
-    tag_index::fill(seq, after, window, &mut index);
-    edit_all(seq, after, &index, marks, window, has_ml, text, ml)
-}
-
-// Edits all groups of a text that ends in ';'.
-pub fn edit_groups(
-    seq: &[u8],
-    after: &[u8],
-    marks: &[u8],
-    lo: usize,
-    has_ml: bool,
-    text: &mut [u8],
-    ml: &mut [u8],
-) -> Edited
-    requires { (length seq.now ≤ 16000) × (length text.old ≤ 65536) × (length ml.old ≤ 65536) × (last_or 0 text.old ≡ semicolon) }
-    ensures { TagEdited (window_edit lo after.now marks.now)
-        (read_groups has_ml (is_marked marks.now) seq.now (closed_by semicolon text.old) ml.old)
-        text.old ml.old result text.new ml.new }
-{
-    // SEQ and `after` are compared once, for all entries of all groups; for a drop they are the same.
-    let window = windows::window_of(seq, after, lo);
-    let many = strides::has_many_groups(seq, text);
-    if many {
-        return edit_indexed(seq, after, marks, window, has_ml, text, ml);
-    }
-    let none: [u8; 0] = [];
-    edit_all(seq, after, &none, marks, window, has_ml, text, ml)
 }

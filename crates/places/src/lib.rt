@@ -2,7 +2,6 @@
 // crate: its functions may have a `requires`.
 ghost use Rattle.std.specs.Prelude.{◌≡◌, ◌≤◌, length, drop};
 ghost use Rattle.strides.specs.Counts.{between};
-ghost use Rattle.tag_index.specs.Index.{Indexed};
 ghost use Rattle.places.specs.Answers.{found_says, entry_says, entry_refusal};
 ghost use Rattle.places.specs.Walk.{first_of, tracked_from, entry_at};
 
@@ -24,13 +23,13 @@ pub enum Found {
     Nothing,
 }
 
-// Where a walk may begin: after what is passed by blocks. Without an index a few bases are passed faster one by one.
-fn ahead(seq: &[u8], index: &[u8], base: u8, from: usize, skip: usize) -> Stride
-    requires { (from ≤ length seq.now) × (length seq.now ≤ 16000) × Indexed 0 seq.now seq.now index.now }
+// Where a walk may begin: after whole blocks, if there are more than a few bases to pass and the base is not 'N'; else at `from`.
+fn ahead(seq: &[u8], base: u8, from: usize, skip: usize) -> Stride
+    requires { (from ≤ length seq.now) × (length seq.now ≤ 16000) }
     ensures { (from ≤ result.place) × (result.place ≤ length seq.now) × (result.passed ≤ skip)
         × (result.passed ≡ length (between base seq.now from result.place)) }
 {
-    if index.len() == 0 && skip < 6 {
+    if skip < 6 || base == b'N' {
         return Stride {
             place: from,
             passed: 0,
@@ -38,15 +37,15 @@ fn ahead(seq: &[u8], index: &[u8], base: u8, from: usize, skip: usize) -> Stride
         };
     }
     let whole = Window { lo: 0, same: true };
-    tag_index::pass_far(seq, seq, index, whole, base, from, skip)
+    strides::pass_blocks(seq, seq, whole, base, from, skip)
 }
 
 // From a place on, passes `skip` of the group's bases and returns the place of the next one.
-pub fn next_tracked(seq: &[u8], index: &[u8], base: u8, from: Place, skip: Ordinal) -> Found
-    requires { (from.0 ≤ length seq.now) × (length seq.now ≤ 16000) × Indexed 0 seq.now seq.now index.now }
+pub fn next_tracked(seq: &[u8], base: u8, from: Place, skip: Ordinal) -> Found
+    requires { (from.0 ≤ length seq.now) × (length seq.now ≤ 16000) }
     ensures { found_says result ≡ first_of (drop skip.0 (tracked_from base from.0 seq.now)) }
 {
-    let start = ahead(seq, index, base, from.0, skip.0);
+    let start = ahead(seq, base, from.0, skip.0);
     let mut ordinal = Ordinal(start.passed);
     let mut pos = Place(start.place);
     while pos.0 < seq.len() {
@@ -83,15 +82,15 @@ impl Entry {
 }
 
 // The base that an entry lists, from a place on: 6 if its field is no number, 7 if SEQ has too few bases for it.
-pub fn find_entry(seq: &[u8], index: &[u8], base: u8, field: &[u8], from: Place) -> Entry
-    requires { (length seq.now ≤ 16000) × (from.0 ≤ length seq.now) × Indexed 0 seq.now seq.now index.now }
+pub fn find_entry(seq: &[u8], base: u8, field: &[u8], from: Place) -> Entry
+    requires { (length seq.now ≤ 16000) × (from.0 ≤ length seq.now) }
     ensures { entry_says result ≡ entry_at field.now (tracked_from base from.0 seq.now) }
 {
     let read = numbers::read_skip(field, 16001);
     let Skip::Of(skip) = read else {
         return Entry::Refused(read.refusal());
     };
-    let found = next_tracked(seq, index, base, from, Ordinal(skip));
+    let found = next_tracked(seq, base, from, Ordinal(skip));
     let Found::At(place) = found else {
         return Entry::Refused(Refusal(7));
     };

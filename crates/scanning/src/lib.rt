@@ -5,14 +5,12 @@ ghost use Rattle.samtags.specs.Bytes.{comma, semicolon};
 ghost use Rattle.samtags.specs.Text.{up_to, led_by, closed_by};
 ghost use Rattle.samtags.specs.Spots.{tracked};
 ghost use Rattle.samtags.specs.Reading.{nowhere, read_spots, read_group, read_groups};
-ghost use Rattle.tag_index.specs.Index.{Indexed};
 ghost use Rattle.fields.specs.Fields.{field_of};
 ghost use Rattle.scanning.specs.Answers.{scan_refusal};
 ghost use Rattle.scanning.specs.Scanning.{columns, EntriesScanned, GroupScanned, TagScanned};
 
 use lent::Refusal;
 use places::{Entry, Place, find_entry};
-use strides::Window;
 
 // The state of a walk: the next byte of the text, the next value of ML, and how many groups and calls were passed.
 #[derive(Drop)]
@@ -73,7 +71,6 @@ fn list_call(
 // Scans a group's entries, from the separator at the cursor on, up to the ';' that closes the group.
 fn scan_entries(
     seq: &[u8],
-    index: &[u8],
     text: &[u8],
     ml: &[u8],
     base: u8,
@@ -83,8 +80,7 @@ fn scan_entries(
     places: &mut [u32],
     starts: &mut [u32],
 ) -> Scan
-    requires seq_len_bound { (length seq.now ≤ 16000) × (length text.now ≤ 65536) × (length ml.now ≤ 65536)
-        × Indexed 0 seq.now seq.now index.now }
+    requires seq_len_bound { (length seq.now ≤ 16000) × (length text.now ≤ 65536) × (length ml.now ≤ 65536) }
     requires text_in_bounds { start.at + length (up_to semicolon (drop start.at text.now)) < length text.now }
     requires text_len { length (field_of (drop start.at text.now)) ≡ 0 }
     requires used_in_bounds { (start.used ≤ length ml.now) × (start.group ≤ start.at) × (start.calls ≤ start.at) }
@@ -101,7 +97,7 @@ fn scan_entries(
     let mut from = Place(0);
     while text[at] == b',' {
         let field = fields::next_field(text, at + 1);
-        let entry = find_entry(seq, index, base, field, from);
+        let entry = find_entry(seq, base, field, from);
         let Entry::On(place) = entry else {
             return Scan::Refused(entry.refusal());
         };
@@ -125,7 +121,6 @@ fn scan_entries(
 // Scans the group that begins at the cursor, up to and including its ';'.
 fn scan_group(
     seq: &[u8],
-    index: &[u8],
     text: &[u8],
     ml: &[u8],
     has_ml: bool,
@@ -134,8 +129,7 @@ fn scan_group(
     places: &mut [u32],
     starts: &mut [u32],
 ) -> Scan
-    requires seq_len_bound { (length seq.now ≤ 16000) × (length text.now ≤ 65536) × (length ml.now ≤ 65536)
-        × Indexed 0 seq.now seq.now index.now }
+    requires seq_len_bound { (length seq.now ≤ 16000) × (length text.now ≤ 65536) × (length ml.now ≤ 65536) }
     requires text_in_bounds { start.at + length (up_to semicolon (drop start.at text.now)) < length text.now }
     requires used_in_bounds { (start.used ≤ length ml.now) × (start.group ≤ start.at) × (start.calls ≤ start.at) }
     ensures { GroupScanned text.now ml.now start
@@ -157,9 +151,7 @@ fn scan_group(
         group: start.group + 1,
         calls: start.calls,
     };
-    let scanned = scan_entries(
-        seq, index, text, ml, base, values, entries, groups, places, starts,
-    );
+    let scanned = scan_entries(seq, text, ml, base, values, entries, groups, places, starts);
     let Scan::To(end) = scanned else {
         return scanned;
     };
@@ -171,68 +163,7 @@ fn scan_group(
     })
 }
 
-// Scans all groups of a text that ends in ';', with an index of SEQ or an empty one. After the last group no value of ML may be left over.
-fn scan_all(
-    seq: &[u8],
-    index: &[u8],
-    text: &[u8],
-    ml: &[u8],
-    has_ml: bool,
-    groups: &mut [u32],
-    places: &mut [u32],
-    starts: &mut [u32],
-) -> Scan
-    requires { (length seq.now ≤ 16000) × (length text.now ≤ 65536) × (length ml.now ≤ 65536) × (last_or 0 text.now ≡ semicolon)
-        × Indexed 0 seq.now seq.now index.now }
-    ensures { TagScanned
-        (read_groups has_ml nowhere seq.now (closed_by semicolon text.now) ml.now)
-        (columns groups.old places.old starts.old)
-        result
-        (columns groups.new places.new starts.new) }
-{
-    let mut c = Cursor {
-        at: 0,
-        used: 0,
-        group: 0,
-        calls: 0,
-    };
-    while c.at < text.len() {
-        let scanned = scan_group(seq, index, text, ml, has_ml, c, groups, places, starts);
-        let Scan::To(next) = scanned else {
-            return scanned;
-        };
-        c = next;
-    }
-    if c.used < ml.len() {
-        return Scan::Refused(Refusal(9));
-    }
-    Scan::To(c)
-}
-
-// Scans all groups of a text with many of them: SEQ is indexed once for all.
-fn scan_indexed(
-    seq: &[u8],
-    text: &[u8],
-    ml: &[u8],
-    has_ml: bool,
-    groups: &mut [u32],
-    places: &mut [u32],
-    starts: &mut [u32],
-) -> Scan
-    requires { (length seq.now ≤ 16000) × (length text.now ≤ 65536) × (length ml.now ≤ 65536) × (last_or 0 text.now ≡ semicolon) }
-    ensures { TagScanned
-        (read_groups has_ml nowhere seq.now (closed_by semicolon text.now) ml.now)
-        (columns groups.old places.old starts.old)
-        result
-        (columns groups.new places.new starts.new) }
-{
-    let whole = Window { lo: 0, same: true };
-    let mut index = tag_index::no_index();
-    tag_index::fill(seq, seq, whole, &mut index);
-    scan_all(seq, &index, text, ml, has_ml, groups, places, starts)
-}
-
-// Scans all groups of a text that ends in ';'.
+// Scans all groups of a text that ends in ';'. After the last one no value of ML may be left over.
 pub fn scan_groups(
     seq: &[u8],
     text: &[u8],
@@ -249,12 +180,23 @@ pub fn scan_groups(
         result
         (columns groups.new places.new starts.new) }
 {
-    let many = strides::has_many_groups(seq, text);
-    if many {
-        return scan_indexed(seq, text, ml, has_ml, groups, places, starts);
+    let mut c = Cursor {
+        at: 0,
+        used: 0,
+        group: 0,
+        calls: 0,
+    };
+    while c.at < text.len() {
+        let scanned = scan_group(seq, text, ml, has_ml, c, groups, places, starts);
+        let Scan::To(next) = scanned else {
+            return scanned;
+        };
+        c = next;
     }
-    let none: [u8; 0] = [];
-    scan_all(seq, &none, text, ml, has_ml, groups, places, starts)
+    if c.used < ml.len() {
+        return Scan::Refused(Refusal(9));
+    }
+    Scan::To(c)
 }
 
 // How many values of the lent ML row are used: none without ML.

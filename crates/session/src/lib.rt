@@ -7,9 +7,10 @@
 // length is longer than its row, then its own numbers and the reader's. If `has_ml` is false, the session has no ML, and both the row lent for ML and
 // its length are ignored. No public function has a `requires`.
 //
-// A step walks over text, ML and the list of places a fixed number of times, and along SEQ for each group; for a tag of many groups it makes tables of
-// SEQ once. So its work is in proportion to text, ML, places and SEQ. It copies neither text nor ML. Its largest local is a row of 16,000 bytes, one
-// for each base that SEQ may have; for a SEQ of at most 1,024 bases a row of 1,024 is cleared instead.
+// A step walks over text, ML and the list of places a fixed number of times, and over SEQ again for each group: the first walk counts the group's
+// letter over the whole of SEQ, even if the group lists nothing. So its work is in proportion to text, ML, places, and SEQ times the number of
+// groups. It copies neither text nor ML. Its largest local is a row of 16,000 bytes, one for each base that SEQ may have; for a SEQ of at most 1,024
+// bases a row of 1,024 is cleared instead.
 ghost use Rattle.samtags.specs.Session.{cut, drop_calls, mask};
 ghost use Rattle.session.specs.PublicContracts.{Meets, Opens, call, rows};
 

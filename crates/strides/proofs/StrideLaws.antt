@@ -113,10 +113,10 @@ module _ (b : ℕ) (seq : List ℕ) where
         ∙ ap (λ (n : ℕ). between b seq from mid ++ places_from (holds b) n (take (to - mid) (drop mid seq))) ends
 
   -- a block has as many as are counted in it
-  pub block_count : (at size : ℕ) → length (between b seq at (at + size)) ≡ length (filter (holds b) (take size (drop at seq)))
-  block_count at size =
-      let z : at + size - at ≡ size = omega arith in
-      places_count (holds b) at (take (at + size - at) (drop at seq)) ∙ ap (λ (n : ℕ). length (filter (holds b) (take n (drop at seq)))) z
+  pub block_count : (at : ℕ) → length (between b seq at (at + 32)) ≡ length (filter (holds b) (take 32 (drop at seq)))
+  block_count at =
+      let z : at + 32 - at ≡ 32 = omega arith in
+      places_count (holds b) at (take (at + 32 - at) (drop at seq)) ∙ ap (λ (n : ℕ). length (filter (holds b) (take n (drop at seq)))) z
 
 -- ---- what a window holds of them
 
@@ -160,41 +160,41 @@ module _ (lo : ℕ) (after : List ℕ) (b : ℕ) (seq : List ℕ) where
       ∙ ap length (filter_append (held_there lo after b) (between b seq from mid) (between b seq mid to))
       ∙ length-append (filter (held_there lo after b) (between b seq from mid)) (filter (held_there lo after b) (between b seq mid to))
 
-  module _ (at size : ℕ) (u : at + size ≤ length seq) where
-    same : at + size - at ≡ size
+  module _ (at : ℕ) (u : at + 32 ≤ length seq) where
+    same : at + 32 - at ≡ 32
     same = omega arith
 
-    full : length (take size (drop at seq)) ≡ size
-    full = length-take-le size (drop at seq) (omega (arith, length-drop at seq))
+    size : length (take 32 (drop at seq)) ≡ 32
+    size = length-take-le 32 (drop at seq) (omega (arith, length-drop at seq))
 
-    block : held_between lo after b seq at (at + size) ≡ length (filter (held_there lo after b) (places_from (holds b) at (take size (drop at seq))))
+    block : held_between lo after b seq at (at + 32) ≡ length (filter (held_there lo after b) (places_from (holds b) at (take 32 (drop at seq))))
     block = ap (λ (n : ℕ). length (filter (held_there lo after b) (places_from (holds b) at (take n (drop at seq))))) same
 
     -- the block ends before the window
-    pub none_before : at + size ≤ lo → held_between lo after b seq at (at + size) ≡ 0
-    none_before h = block ∙ none_held (held_there lo after b) (holds b) at (take size (drop at seq))
-        (λ p l k. there_before lo after b p (omega (arith, full)))
+    pub none_before : at + 32 ≤ lo → held_between lo after b seq at (at + 32) ≡ 0
+    none_before h = block ∙ none_held (held_there lo after b) (holds b) at (take 32 (drop at seq))
+        (λ p l k. there_before lo after b p (omega (arith, size)))
 
     -- the window ends before the block
-    pub none_past : lo ≤ at → length after ≤ at - lo → held_between lo after b seq at (at + size) ≡ 0
-    none_past h k = block ∙ none_held (held_there lo after b) (holds b) at (take size (drop at seq))
+    pub none_past : lo ≤ at → length after ≤ at - lo → held_between lo after b seq at (at + 32) ≡ 0
+    none_past h k = block ∙ none_held (held_there lo after b) (holds b) at (take 32 (drop at seq))
         (λ p l m. there_past lo after b p (omega arith) (omega arith))
 
     -- the block lies in the window
-    pub both_inside : lo ≤ at → at - lo + size ≤ length after
-        → held_between lo after b seq at (at + size) ≡ hold_both b (take size (drop at seq)) (take size (drop (at - lo) after))
-    both_inside h k = block ∙ both_held (held_there lo after b) b at (take size (drop at seq)) (take size (drop (at - lo) after)) (full ∙ sym there) inside
+    pub both_inside : lo ≤ at → at - lo + 32 ≤ length after
+        → held_between lo after b seq at (at + 32) ≡ hold_both b (take 32 (drop at seq)) (take 32 (drop (at - lo) after))
+    both_inside h k = block ∙ both_held (held_there lo after b) b at (take 32 (drop at seq)) (take 32 (drop (at - lo) after)) (size ∙ sym there) inside
       where
-        there : length (take size (drop (at - lo) after)) ≡ size
-        there = length-take-le size (drop (at - lo) after) (omega (arith, length-drop (at - lo) after))
+        there : length (take 32 (drop (at - lo) after)) ≡ 32
+        there = length-take-le 32 (drop (at - lo) after) (omega (arith, length-drop (at - lo) after))
 
-        inside : (n : ℕ) → n < length (take size (drop (at - lo) after)) → held_there lo after b (at + n) ≡ holds b (get_or (take size (drop (at - lo) after)) n 0)
+        inside : (n : ℕ) → n < length (take 32 (drop (at - lo) after)) → held_there lo after b (at + n) ≡ holds b (get_or (take 32 (drop (at - lo) after)) n 0)
         inside n l =
-            let small : n < size = omega (arith, there) in
+            let small : n < 32 = omega (arith, there) in
             let z : at + n - lo ≡ at - lo + n = omega arith in
             there_inside lo after b (at + n) (omega arith) (omega arith)
             ∙ ap (λ (j : ℕ). holds b (get_or after j 0)) z
-            ∙ ap (holds b) (sym (get_or-take size (drop (at - lo) after) n 0 small ∙ get_or-drop (at - lo) after n 0))
+            ∙ ap (holds b) (sym (get_or-take 32 (drop (at - lo) after) n 0 small ∙ get_or-drop (at - lo) after n 0))
 
 -- a block that is not divided by a window other than SEQ itself
 pub undivided : (w : Window) (bases place : ℕ) → w.same ≡ false → Undivided w bases place
@@ -208,14 +208,14 @@ both_self b [] = refl
 both_self b (x ∷ xs) = by-test (holds b x) (λ e. rw (e, both_self b xs) (omega arith)) (λ e. rw (e, both_self b xs) (omega arith))
 
 -- if `after` is SEQ itself, it holds every base of a block
-pub all_held : (w : Window) (after : List ℕ) (b : ℕ) (seq : List ℕ) (at size : ℕ) → Told w after seq → w.same ≡ true → at + size ≤ length seq
-    → held_between w.lo after b seq at (at + size) ≡ length (filter (holds b) (take size (drop at seq)))
-all_held w after b seq at size told s u =
+pub all_held : (w : Window) (after : List ℕ) (b : ℕ) (seq : List ℕ) (at : ℕ) → Told w after seq → w.same ≡ true → at + 32 ≤ length seq
+    → held_between w.lo after b seq at (at + 32) ≡ length (filter (holds b) (take 32 (drop at seq)))
+all_held w after b seq at told s u =
     let start = (told s).0 in
     let row = (told s).1 in
-    (λ j. held_between (start j) (row j) b seq at (at + size))
-    ∙ both_inside 0 seq b seq at size u (omega arith) (omega arith)
-    ∙ rw (sub-zero at) (both_self b (take size (drop at seq)))
+    (λ j. held_between (start j) (row j) b seq at (at + 32))
+    ∙ both_inside 0 seq b seq at u (omega arith) (omega arith)
+    ∙ rw (sub-zero at) (both_self b (take 32 (drop at seq)))
 
 -- ---- how many there are in all
 
@@ -231,7 +231,7 @@ pub tracked_count : (b : ℕ) (seq : List ℕ) → length (tracked b seq) ≡ le
 unfolding tracked
 tracked_count b seq = places_count (holds b) 0 seq
 
-pub holds_any : (b : ℕ) → b ≡ 78 → (x : ℕ) → holds b x ≡ true
+holds_any : (b : ℕ) → b ≡ 78 → (x : ℕ) → holds b x ≡ true
 unfolding holds
 holds_any b e x = rw (eq-eqb b 78 e)
 

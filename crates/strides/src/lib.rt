@@ -1,8 +1,7 @@
 // Passes whole blocks of SEQ at a time. A group's entry says how many bases of a letter to pass. A block with no more of them than are left to pass
 // is passed by its counts alone, which takes the processor about one step for each base. A support crate: its functions may have a `requires`.
-ghost use Rattle.std.specs.Prelude.{◌≡◌, ◌+◌, ◌-◌, ◌≤◌, false, true, ◌&&◌, leb, length, take, drop};
+ghost use Rattle.std.specs.Prelude.{◌≡◌, ◌+◌, ◌-◌, ◌≤◌, false, true, length, take, drop};
 ghost use Rattle.lent.specs.Lists.{filter};
-ghost use Rattle.samtags.specs.Bytes.{semicolon};
 ghost use Rattle.samtags.specs.Spots.{holds, tracked};
 ghost use Rattle.strides.specs.Counts.{Told, Undivided, between, held_between, hold_both};
 
@@ -21,8 +20,8 @@ pub fn counts(base: u8, b: u8) -> bool
 }
 
 // How many bytes of a block from a place on are the base. The count is kept in a byte, so that sixteen counts are added in one step.
-pub fn count_block(seq: &[u8], from: usize, size: usize, base: u8) -> usize
-    requires { (from + size ≤ length seq.now) × (size ≤ 255) × (base ≡ 78 → ⊥) }
+fn count_block(seq: &[u8], from: usize, size: usize, base: u8) -> usize
+    requires { (from + size ≤ length seq.now) × (size ≤ 128) × (base ≡ 78 → ⊥) }
     ensures { result ≡ length (filter (holds base) (take size (drop from seq.now))) }
 {
     let mut n: u8 = 0;
@@ -35,21 +34,14 @@ pub fn count_block(seq: &[u8], from: usize, size: usize, base: u8) -> usize
     n as usize
 }
 
-// How many places of a block hold the base both in SEQ and in the edited SEQ.
-pub fn both_in_block(
-    seq: &[u8],
-    from: usize,
-    after: &[u8],
-    there: usize,
-    size: usize,
-    base: u8,
-) -> usize
-    requires { (from + size ≤ length seq.now) × (there + size ≤ length after.now) × (size ≤ 255) × (base ≡ 78 → ⊥) }
-    ensures { result ≡ hold_both base (take size (drop from seq.now)) (take size (drop there after.now)) }
+// How many of 32 places hold the base both in SEQ and in the edited SEQ.
+fn both_in_block(seq: &[u8], from: usize, after: &[u8], there: usize, base: u8) -> usize
+    requires { (from + 32 ≤ length seq.now) × (there + 32 ≤ length after.now) × (base ≡ 78 → ⊥) }
+    ensures { result ≡ hold_both base (take 32 (drop from seq.now)) (take 32 (drop there after.now)) }
 {
     let mut n: u8 = 0;
     let mut i = 0;
-    while i < size {
+    while i < 32 {
         let first = seq[from + i] == base;
         let second = after[there + i] == base;
         n = n + (first & second) as u8;
@@ -99,7 +91,7 @@ fn held_in_block(
     if after.len() <= there {
         return 0;
     }
-    both_in_block(seq, place, after, there, 32, base)
+    both_in_block(seq, place, after, there, base)
 }
 
 // How far a walk came: its place, how many of the bases to pass it has passed, and how many of those are still held.
@@ -167,7 +159,7 @@ fn is_far(skip: usize, bases: usize) -> bool
 
 // How many bases of SEQ a group on the base counts.
 pub fn how_many(seq: &[u8], base: u8) -> usize
-    requires { length seq.now ≤ 65536 }
+    requires { length seq.now ≤ 16000 }
     ensures { result ≡ length (tracked base seq.now) }
 {
     if base == b'N' {
@@ -180,26 +172,4 @@ pub fn how_many(seq: &[u8], base: u8) -> usize
         i = i + 128;
     }
     n + count_block(seq, i, seq.len() - i, base)
-}
-
-// From so many bases, bytes of text and groups on, a table of SEQ that is made once for a tag costs less than looking at SEQ for each group.
-const LONG_SEQ: usize = 1024;
-
-const LONG_TEXT: usize = 128;
-
-const MANY_GROUPS: usize = 32;
-
-// Whether a tag has many groups over a long SEQ. The text of a tag with one group is often too short to be looked at.
-pub fn has_many_groups(seq: &[u8], text: &[u8]) -> bool
-    requires { length text.now ≤ 65536 }
-    ensures { result ≡ (leb 1024 (length seq.now) && leb 128 (length text.now)
-        && leb 32 (length (tracked semicolon text.now))) }
-{
-    if seq.len() < LONG_SEQ {
-        return false;
-    }
-    if text.len() < LONG_TEXT {
-        return false;
-    }
-    MANY_GROUPS <= how_many(text, b';')
 }

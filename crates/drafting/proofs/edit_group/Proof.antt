@@ -23,7 +23,7 @@ use Rattle.drafting.proofs.edit_group.Tie as tie
 abbrev entries_at : (w : tie.After-edit-entries) → Cursor
 entries_at w =
     let a =
-    w.before.before.before.before.before.before.before.before.before.before.before.before.before.before.before.before.before.before.args in
+    w.before.before.before.before.before.before.before.before.before.before.before.before.before.before.before.before.before.args in
     record {
       at = a.at + length w.before.before.before.before.before.before.before.before.before.next_field.result.now;
       used = a.used;
@@ -34,7 +34,7 @@ entries_at w =
 abbrev spots_at : (w : tie.After-edit-entries) → Outcome (List Spot × List ℕ)
 spots_at w =
     let a =
-    w.before.before.before.before.before.before.before.before.before.before.before.before.before.before.before.before.before.before.args in
+    w.before.before.before.before.before.before.before.before.before.before.before.before.before.before.before.before.before.args in
     read_spots w.before.before.before.before.before.before.before.kind-of.result.values (denied_in a.marks.now
     w.before.before.before.before.before.before.before.kind-of.result.may_drop)
     (led_by 44 (up_to 59 (drop (a.at + length
@@ -45,15 +45,15 @@ spots_at w =
 -- what the entries' contract says of the answer r
 entries : (w : tie.After-edit-entries) (r : Edited) → w.edit-entries.result ≡ r →
     let a =
-    w.before.before.before.before.before.before.before.before.before.before.before.before.before.before.before.before.before.before.args in
-    let l = w.edit-entries.new.1.1.1.1.1.1.1.1.1 in
+    w.before.before.before.before.before.before.before.before.before.before.before.before.before.before.before.before.before.args in
+    let l = w.edit-entries.new.1.1.1.1.1.1.1.1 in
     EntriesEdited (held_in a.window.lo a.after.now w.before.before.before.before.before.before.before.kind-of.result.base) (is_marked
     a.marks.now) a.text.now a.ml.now (entries_at w) (spots_at w)
     w.before.before.before.before.before.put_all_lem.new.0 a.ml-out.now r l.0 l.1.0
 entries w r e =
     let a =
-    w.before.before.before.before.before.before.before.before.before.before.before.before.before.before.before.before.before.before.args in
-    let l = w.edit-entries.new.1.1.1.1.1.1.1.1.1 in
+    w.before.before.before.before.before.before.before.before.before.before.before.before.before.before.before.before.before.args in
+    let l = w.edit-entries.new.1.1.1.1.1.1.1.1 in
     subst (λ (x : Edited). EntriesEdited (held_in a.window.lo a.after.now
     w.before.before.before.before.before.before.before.kind-of.result.base) (is_marked a.marks.now) a.text.now a.ml.now
     (entries_at w) (spots_at w) w.before.before.before.before.before.put_all_lem.new.0 a.ml-out.now x l.0 l.1.0) e
@@ -61,11 +61,11 @@ entries w r e =
 
 -- where the group ends, counted from its header's end and from its start
 ends-together : (s : tie.After-next-field) →
-    let a = s.before.before.before.before.before.before.before.before.before.args in
+    let a = s.before.before.before.before.before.before.before.before.args in
     let n = length s.next_field.result.now in
     a.at + n + length (up_to 59 (drop (a.at + n) a.text.now)) ≡ a.at + length (up_to 59 (drop a.at a.text.now))
 ends-together s =
-    let a = s.before.before.before.before.before.before.before.before.before.args in
+    let a = s.before.before.before.before.before.before.before.before.args in
     omega (arith, rest_from a.text.now a.at (length s.next_field.result.now) (ap length (sym s.next_field.ensures)))
 
 next-field-requires : tie.Need-next-field-requires
@@ -73,7 +73,7 @@ next-field-requires c κs = search rules
 
 returns : tie.Need-returns
 returns c =
-    let a = c.before.before.before.before.before.before.before.before.before.before.args in
+    let a = c.before.before.before.before.before.before.before.before.before.args in
     group_short a.has-ml (is_marked a.marks.now) a.seq.now a.text.now a.at c.before.next_field.result.now
     c.before.next_field.ensures
     (drop a.used a.ml.now) (omega arith)
@@ -85,20 +85,20 @@ put-all-requires : tie.Need-put-all-requires
 put-all-requires c κs = omega (
   arith,
   ends-together c.before.before.before,
-  c.before.before.before.before.before.before.before.before.before.before.before.before.requires,
+  c.before.before.before.before.before.before.before.before.before.before.before.requires,
 )
 
-add-t25 : tie.Need-overflow-add-t25
-add-t25 c = search rules
+add-t24 : tie.Need-overflow-add-t24
+add-t24 c = search rules
 
 edit-entries-requires : tie.Need-edit-entries-requires
 edit-entries-requires c κs =
     let s = c.before.before.before.before.before.before.before.before in
-    let a = s.before.before.before.before.before.before.before.before.before.args in
+    let a = s.before.before.before.before.before.before.before.before.args in
     let n = length s.next_field.result.now in
     let e = ends-together s in
-    let sizes = s.before.before.before.before.before.before.before.before.before.requires in (
-      (omega arith, omega arith, omega arith, sizes.0.3, sizes.0.4),
+    let sizes = s.before.before.before.before.before.before.before.before.requires in (
+      (omega arith, omega arith, omega arith, sizes.0.3),
       (
         omega (arith, e, sizes),
         (
@@ -124,10 +124,10 @@ returns-2 : tie.Need-returns-2
 returns-2 c =
     let w = c.before.before.before.before.before.before in
     let a =
-    w.before.before.before.before.before.before.before.before.before.before.before.before.before.before.before.before.before.before.args in
+    w.before.before.before.before.before.before.before.before.before.before.before.before.before.before.before.before.before.args in
     let f = w.before.before.before.before.before.before.before.before.before.next_field in
     let g = c.enum_told.given in
-    let l = w.edit-entries.new.1.1.1.1.1.1.1.1.1 in
+    let l = w.edit-entries.new.1.1.1.1.1.1.1.1 in
     subst (λ (x : Edited). GroupEdited (window_edit a.window.lo a.after.now a.marks.now) a.text.now a.ml.now a.at a.used
     (read_group a.has-ml (is_marked a.marks.now) a.seq.now (up_to 59 (drop a.at a.text.now)) (drop a.used a.ml.now))
     a.out.now a.ml-out.now x l.0 l.1.0) (sym g.1)
@@ -140,18 +140,18 @@ returns-2 c =
 put-requires : tie.Need-put-requires
 put-requires c κs = search rules
 
-add-t20 : tie.Need-overflow-add-t20
-add-t20 c = omega (
+add-t19 : tie.Need-overflow-add-t19
+add-t19 c = omega (
   arith,
   (entries c.before.before.before.before.before.before.before.before.before.before.before.before _
       c.before.before.before.before.before.before.edited.given.1).0,
   ends-together
       c.before.before.before.before.before.before.before.before.before.before.before.before.before.before.before.before.before.before.before.before.before,
-  c.before.before.before.before.before.before.before.before.before.before.before.before.before.before.before.before.before.before.before.before.before.before.before.before.before.before.before.before.before.before.requires,
+  c.before.before.before.before.before.before.before.before.before.before.before.before.before.before.before.before.before.before.before.before.before.before.before.before.before.before.before.before.before.requires,
 )
 
-add-t25-2 : tie.Need-overflow-add-t25-2
-add-t25-2 c =
+add-t24-2 : tie.Need-overflow-add-t24-2
+add-t24-2 c =
     let x = entries c.before.before.before.before.before.before.before.before.before.before.before.before _
     c.before.before.before.before.before.before.edited.given.1 in
     omega (
@@ -161,7 +161,7 @@ add-t25-2 c =
       ends-together
           c.before.before.before.before.before.before.before.before.before.before.before.before.before.before.before.before.before.before.before.before.before,
       c.before.before.before.before.before.before.before.before.before.before.before.before.before.before.before.before.before.put_all_lem.ensures.0,
-      c.before.before.before.before.before.before.before.before.before.before.before.before.before.before.before.before.before.before.before.before.before.before.before.before.before.before.before.before.before.before.requires,
+      c.before.before.before.before.before.before.before.before.before.before.before.before.before.before.before.before.before.before.before.before.before.before.before.before.before.before.before.before.before.requires,
     )
 
 same-length-3 : tie.Need-same-length-3
@@ -174,12 +174,12 @@ returns-3 : tie.Need-returns-3
 returns-3 c =
     let w = c.before.before.before.before.before.before.before.before.before.before.before.before in
     let a =
-    w.before.before.before.before.before.before.before.before.before.before.before.before.before.before.before.before.before.before.args in
+    w.before.before.before.before.before.before.before.before.before.before.before.before.before.before.before.before.before.args in
     let f = w.before.before.before.before.before.before.before.before.before.next_field in
     let g = c.before.before.before.before.before.before.edited.given in
     let p = w.before.before.before.before.before.put_all_lem in
     let x = entries w _ g.1 in
-    let l = w.edit-entries.new.1.1.1.1.1.1.1.1.1 in (
+    let l = w.edit-entries.new.1.1.1.1.1.1.1.1 in (
       omega (arith, x.0, ends-together w.before.before.before.before.before.before.before.before.before),
       x.1,
       omega (arith, x.2, p.ensures.0),
@@ -201,7 +201,7 @@ edit-group-spec =
     returns
     kind-of-requires
     put-all-requires
-    add-t25
+    add-t24
     edit-entries-requires
     enum-known-edited
     enum_told
@@ -209,8 +209,8 @@ edit-group-spec =
     same-length-2
     returns-2
     put-requires
-    add-t20
-    add-t25-2
+    add-t19
+    add-t24-2
     same-length-3
     same-length-4
     returns-3)

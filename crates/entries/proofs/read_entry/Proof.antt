@@ -33,7 +33,7 @@ refusal-requires c κs = search rules
 
 returns : tie.Need-returns
 returns c =
-    let a = c.before.before.before.before.before.before.before.before.before.args in
+    let a = c.before.before.before.before.before.before.before.before.args in
     let g = c.before.enum_told.given in
     let held = held_in a.window.lo a.after.now a.kind.base in
     let denied = denied_in a.marks.now a.kind.may_drop in
@@ -53,27 +53,27 @@ enum-told-2 c = search rules
 
 returns-2 : tie.Need-returns-2
 returns-2 c =
-    let a = c.before.before.before.before.before.before.before.before.before.before.before.before.args in
+    let a = c.before.before.before.before.before.before.before.before.before.before.before.args in
     let g = c.before.before.before.before.read.given in
     let r = c.enum-told2.given in
     let held = held_in a.window.lo a.after.now a.kind.base in
     let denied = denied_in a.marks.now a.kind.may_drop in
     let places = tracked_from a.kind.base a.from.0 a.seq.now in
     ap reached_says r.1 ∙ read_seven held denied a.kind.values a.field.now places a.left (few
-    c.before.before.before.before.before.before.before.before.before.before.before.before) g.0.0
+    c.before.before.before.before.before.before.before.before.before.before.before) g.0.0
     (sym (ap skip_says g.1) ∙ c.before.before.before.before.before.before.read-skip.ensures) r.0.0 (sym (ap reached_says r.1) ∙
     c.before.before.pass-tracked.ensures)
 
 returns-3 : tie.Need-returns-3
 returns-3 c =
-    let a = c.before.before.before.before.before.before.before.before.before.before.before.before.before.before.before.args in
+    let a = c.before.before.before.before.before.before.before.before.before.before.before.before.before.before.args in
     let g = c.before.before.before.before.before.before.before.read.given in
     let r = c.before.before.before.reached.given in
     let held = held_in a.window.lo a.after.now a.kind.base in
     let denied = denied_in a.marks.now a.kind.may_drop in
     let places = tracked_from a.kind.base a.from.0 a.seq.now in
     read_eight held denied a.kind.values a.field.now places a.left (few
-    c.before.before.before.before.before.before.before.before.before.before.before.before.before.before.before) g.0.0
+    c.before.before.before.before.before.before.before.before.before.before.before.before.before.before) g.0.0
     (sym (ap skip_says g.1) ∙ c.before.before.before.before.before.before.before.before.before.read-skip.ensures) r.0.0.0 r.0.1.0.0
     (sym (ap reached_says r.1) ∙ c.before.before.before.before.before.pass-tracked.ensures)
     (omega arith)
@@ -83,21 +83,21 @@ is-denied-requires c κs = search rules
 
 returns-4 : tie.Need-returns-4
 returns-4 c =
-    let a = c.before.before.before.before.before.before.before.before.before.before.before.before.before.before.before.before.before.args in
+    let a = c.before.before.before.before.before.before.before.before.before.before.before.before.before.before.before.before.args in
     let g = c.before.before.before.before.before.before.before.before.before.read.given in
     let r = c.before.before.before.before.before.reached.given in
     let held = held_in a.window.lo a.after.now a.kind.base in
     let denied = denied_in a.marks.now a.kind.may_drop in
     let places = tracked_from a.kind.base a.from.0 a.seq.now in
     read_ten held denied a.kind.values a.field.now places a.left (few
-    c.before.before.before.before.before.before.before.before.before.before.before.before.before.before.before.before.before) g.0.0
+    c.before.before.before.before.before.before.before.before.before.before.before.before.before.before.before.before) g.0.0
     (sym (ap skip_says g.1) ∙ c.before.before.before.before.before.before.before.before.before.before.before.read-skip.ensures) r.0.0.0
     r.0.1.0.0 (sym (ap reached_says r.1) ∙ c.before.before.before.before.before.before.before.pass-tracked.ensures)
     (omega arith) (sym c.before.is-denied.ensures ∙ c.if2.true)
 
 returns-5 : tie.Need-returns-5
 returns-5 c =
-    let a = c.before.before.before.before.before.before.before.before.before.before.before.before.before.before.before.before.before.args in
+    let a = c.before.before.before.before.before.before.before.before.before.before.before.before.before.before.before.before.args in
     let g = c.before.before.before.before.before.before.before.before.before.read.given in
     let r = c.before.before.before.before.before.reached.given in
     let held = held_in a.window.lo a.after.now a.kind.base in

@@ -42,7 +42,7 @@ put-from seq after marks text ml window kind w gap used at from =
     (read_spots kind.values (denied_in marks kind.may_drop) (led_by 44 (up_to 59 (drop at text))) (tracked_from kind.base from seq) (drop used ml))
 
 abbrev invariant-loop : tie.invariant-loop
-invariant-loop seq after index marks window kind text₀ ml₀ at₀ used₀ pen₀ from₀ text ml at used pen from =
+invariant-loop seq after marks window kind text₀ ml₀ at₀ used₀ pen₀ from₀ text ml at used pen from =
     (at + length (up_to 59 (drop at text₀)) ≡ at₀ + length (up_to 59 (drop at₀ text₀)))
     × (length (field_of (drop at text₀)) ≡ 0)
     × (from.0 ≤ length seq) × (used ≤ length ml₀)
@@ -55,21 +55,21 @@ invariant-loop seq after index marks window kind text₀ ml₀ at₀ used₀ pen
     × (length text ≡ length text₀) × (length ml ≡ length ml₀)
 
 abbrev decreases-loop : tie.decreases-loop
-decreases-loop seq after index marks window kind text₀ ml₀ at₀ used₀ pen₀ from₀ text ml at used pen from = length text₀ - at
+decreases-loop seq after marks window kind text₀ ml₀ at₀ used₀ pen₀ from₀ text ml at used pen from = length text₀ - at
 
 abbrev start-of : tie.At-loop invariant-loop decreases-loop → tie.Start invariant-loop decreases-loop
-start-of l = l.before.before.before.before.before.before.before.before
+start-of l = l.before.before.before.before.before.before.before
 
 -- the invariant, from the pen that the walk begins with
 known : (l : tie.At-loop invariant-loop decreases-loop) →
     let a = (start-of l).args in
     let h = l.loop in
-    invariant-loop a.seq.now a.after.now a.index.now a.marks.now a.window a.kind a.text.now a.ml.now a.start.at a.start.used (pen_of a.start)
+    invariant-loop a.seq.now a.after.now a.marks.now a.window a.kind a.text.now a.ml.now a.start.at a.start.used (pen_of a.start)
     h.from h.text h.ml h.at h.used h.pen h.from
 known l =
     let a = (start-of l).args in
     let h = l.loop in
-    subst (λ (p : Pen). invariant-loop a.seq.now a.after.now a.index.now a.marks.now a.window a.kind a.text.now a.ml.now a.start.at a.start.used p
+    subst (λ (p : Pen). invariant-loop a.seq.now a.after.now a.marks.now a.window a.kind a.text.now a.ml.now a.start.at a.start.used p
     h.from h.text h.ml h.at h.used h.pen h.from) l.before.pen.ensures h.invariant
 
 -- the field at the cursor is unchanged
@@ -157,7 +157,7 @@ pen-requires c κs = search rules
 
 loop-holds : tie.Need-loop-init invariant-loop decreases-loop
 loop-holds c =
-    let a = c.before.before.before.before.before.before.before.args in
+    let a = c.before.before.before.before.before.before.args in
     let p = c.pen.result in
     let none : p.gap ≡ 0 = ap (λ (q : Pen). q.gap) c.pen.ensures in (
       refl,
@@ -188,7 +188,7 @@ next-field-requires : tie.Need-next-field-requires invariant-loop decreases-loop
 next-field-requires c κs = omega arith
 
 read-entry-requires : tie.Need-read-entry-requires invariant-loop decreases-loop
-read-entry-requires c κs = (omega arith, omega arith, (start-of c.before.before.before.before).pre.0.3, (start-of c.before.before.before.before).pre.0.4)
+read-entry-requires c κs = (omega arith, omega arith, (start-of c.before.before.before.before).pre.0.3)
 
 enum-known-reached : tie.Need-enum-known-reached invariant-loop decreases-loop
 enum-known-reached c = search rules

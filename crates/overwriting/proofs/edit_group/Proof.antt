@@ -27,37 +27,37 @@ use Rattle.overwriting.proofs.edit_group.Tie as tie
 
 -- where the group ends, counted from its header's end and from its start
 ends-together : (s : tie.After-next-field) →
-    let a = s.before.before.before.before.before.before.before.before.args in
+    let a = s.before.before.before.before.before.before.before.args in
     let n = length s.next_field.result.now in
     a.at + n + length (up_to 59 (drop (a.at + n) a.text.now)) ≡ a.at + length (up_to 59 (drop a.at a.text.now))
 ends-together s =
-    let a = s.before.before.before.before.before.before.before.before.args in
+    let a = s.before.before.before.before.before.before.before.args in
     omega (arith, rest_from a.text.now a.at (length s.next_field.result.now) (ap length (sym s.next_field.ensures)))
 
 -- the header is the part of the row that moves
 header-moved : (m : tie.After-move-left) → m.move-left.new.0 ≡ sets
-    m.before.before.before.before.before.before.before.before.before.before.before.before.args.text.now 0
+    m.before.before.before.before.before.before.before.before.before.before.before.args.text.now 0
     m.before.before.before.before.next_field.result.now
 header-moved m =
-    let a = m.before.before.before.before.before.before.before.before.before.before.before.before.args in
+    let a = m.before.before.before.before.before.before.before.before.before.before.before.args in
     let f = m.before.before.before.before.next_field in
     subst (λ (h : List ℕ). m.move-left.new.0 ≡ sets a.text.now 0 h)
     (field_part (drop a.at a.text.now) (length f.result.now) (ap length (sym f.ensures)) ∙ sym f.ensures) m.move-left.ensures
 
 -- from the entries on the row is unchanged
 entries-stand : (m : tie.After-move-left) →
-    let e = m.before.before.before.before.before.before.before.before.before.before.before.before.args.at + length
+    let e = m.before.before.before.before.before.before.before.before.before.before.before.args.at + length
     m.before.before.before.before.next_field.result.now in
     drop e m.move-left.new.0 ≡ drop e
-    m.before.before.before.before.before.before.before.before.before.before.before.before.args.text.now
+    m.before.before.before.before.before.before.before.before.before.before.before.args.text.now
 entries-stand m =
-    let a = m.before.before.before.before.before.before.before.before.before.before.before.before.args in
+    let a = m.before.before.before.before.before.before.before.before.before.before.before.args in
     let h = m.before.before.before.before.next_field.result.now in
     ap (drop (a.at + length h)) (header-moved m) ∙ drop_stored a.text.now 0 h (a.at + length h) (omega arith)
 
 -- the places that an edited group's facts go back to
 abbrev began : tie.After-edit-entries → tie.Start
-began w = w.before.before.before.before.before.before.before.before.before.before.before.before.before.before.before.before.before
+began w = w.before.before.before.before.before.before.before.before.before.before.before.before.before.before.before.before
 
 abbrev header : tie.After-edit-entries → tie.After-next-field
 header w = w.before.before.before.before.before.before.before.before.before
@@ -82,13 +82,13 @@ spots_at w text =
 -- what the entries' contract says of the answer r, over the row as it was before the header moved
 entries : (w : tie.After-edit-entries) (r : Edited) → w.edit-entries.result ≡ r →
     let a = (began w).args in
-    let l = w.edit-entries.new.1.1.1.1.1.1.1 in
+    let l = w.edit-entries.new.1.1.1.1.1.1 in
     EntriesEdited (held_in a.window.lo a.after.now w.before.before.before.before.before.before.before.kind-of.result.base) (is_marked
     a.marks.now) a.text.now a.ml.now (entries_at w)
     (spots_at w (drop (entries_at w).at a.text.now)) (moved w).move-left.new.0 a.ml.now r l.0 l.1.0
 entries w r e =
     let a = (began w).args in
-    let l = w.edit-entries.new.1.1.1.1.1.1.1 in
+    let l = w.edit-entries.new.1.1.1.1.1.1 in
     let held = held_in a.window.lo a.after.now w.before.before.before.before.before.before.before.kind-of.result.base in
     let named = is_marked a.marks.now in
     let t = a.text.now in
@@ -110,8 +110,8 @@ stop-inside k =
     (omega (arith, x.0, ends-together (header w), (began w).requires), omega (arith, x.2))
 
 -- the row keeps its length
-row-length : (w : tie.After-edit-entries) → length w.edit-entries.new.1.1.1.1.1.1.1.0 ≡ length (began w).args.text.now
-row-length w = w.edit-entries.auto.1.1.1.1.1.1.1.0 ∙ (moved w).move-left.auto.0
+row-length : (w : tie.After-edit-entries) → length w.edit-entries.new.1.1.1.1.1.1.0 ≡ length (began w).args.text.now
+row-length w = w.edit-entries.auto.1.1.1.1.1.1.0 ∙ (moved w).move-left.auto.0
 
 next-field-requires : tie.Need-next-field-requires
 next-field-requires c κs = search rules
@@ -121,7 +121,7 @@ same_length c = search rules
 
 returns : tie.Need-returns
 returns c =
-    let a = c.before.before.before.before.before.before.before.before.before.args in
+    let a = c.before.before.before.before.before.before.before.before.args in
     let f = c.before.next_field in
     group_short a.has-ml (is_marked a.marks.now) a.seq.now a.text.now a.at f.result.now f.ensures
     (drop a.used a.ml.now) (omega arith)
@@ -135,19 +135,19 @@ move-left-requires c κs = (
   omega (
     arith,
     ends-together c.before.before.before,
-    c.before.before.before.before.before.before.before.before.before.before.before.requires,
+    c.before.before.before.before.before.before.before.before.before.before.requires,
   ),
 )
 
-add-t25 : tie.Need-overflow-add-t25
-add-t25 c = search rules
+add-t24 : tie.Need-overflow-add-t24
+add-t24 c = search rules
 
 edit-entries-requires : tie.Need-edit-entries-requires
 edit-entries-requires c κs =
     let m = c.before.before.before.before in
-    let a = m.before.before.before.before.before.before.before.before.before.before.before.before.args in
+    let a = m.before.before.before.before.before.before.before.before.before.before.before.args in
     let n = length m.before.before.before.before.next_field.result.now in
-    let sizes = m.before.before.before.before.before.before.before.before.before.before.before.before.requires in
+    let sizes = m.before.before.before.before.before.before.before.before.before.before.before.requires in
     let same = m.move-left.auto.0 in
     let stand = entries-stand m in
     let close : a.at + n + length (up_to 59 (drop (a.at + n) m.move-left.new.0)) < length m.move-left.new.0 =
@@ -155,7 +155,7 @@ edit-entries-requires c κs =
     let field : length (field_of (drop (a.at + n) m.move-left.new.0)) ≡ 0 =
     ap (λ (d : List ℕ). length (field_of d)) stand
     ∙ field_from a.text.now a.at n (ap length (sym m.before.before.before.before.next_field.ensures)) in (
-      (sizes.0.0, omega (arith, same, sizes), sizes.0.2, sizes.0.3, sizes.0.4),
+      (sizes.0.0, omega (arith, same, sizes), sizes.0.2, sizes.0.3),
       (close, (field, (sizes.1.1, omega arith, omega arith))),
     )
 
@@ -177,7 +177,7 @@ returns-2 c =
     let a = (began w).args in
     let f = (header w).next_field in
     let g = c.enum_told.given in
-    let l = w.edit-entries.new.1.1.1.1.1.1.1 in
+    let l = w.edit-entries.new.1.1.1.1.1.1 in
     subst (λ (x : Edited). GroupEdited (window_edit a.window.lo a.after.now a.marks.now) a.text.now a.ml.now a.at a.used
     (read_group a.has-ml (is_marked a.marks.now) a.seq.now (up_to 59 (drop a.at a.text.now)) (drop a.used a.ml.now))
     a.text.now a.ml.now x l.0 l.1.0) (sym g.1)
@@ -191,15 +191,15 @@ returns-2 c =
 slice-write-text : tie.Need-slice-write-text
 slice-write-text c = omega (arith, stop-inside c, row-length c.before.before.before.before.before.before.before)
 
-add-t25-2 : tie.Need-overflow-add-t25-2
-add-t25-2 c = omega (
+add-t24-2 : tie.Need-overflow-add-t24-2
+add-t24-2 c = omega (
   arith,
   stop-inside c.before,
   (began c.before.before.before.before.before.before.before.before).requires,
 )
 
-add-t31 : tie.Need-overflow-add-t31
-add-t31 c = omega (
+add-t30 : tie.Need-overflow-add-t30
+add-t30 c = omega (
   arith,
   stop-inside c.before,
   (began c.before.before.before.before.before.before.before.before).requires,
@@ -208,7 +208,7 @@ add-t31 c = omega (
 same-length-4 : tie.Need-same-length-4
 same-length-4 c =
     let w = c.before.before.before.before.before.before.before.before in
-    length-set w.edit-entries.new.1.1.1.1.1.1.1.0 c.before.before.edited.given.0.0.end 59 ∙ row-length w
+    length-set w.edit-entries.new.1.1.1.1.1.1.0 c.before.before.edited.given.0.0.end 59 ∙ row-length w
 
 same-length-5 : tie.Need-same-length-5
 same-length-5 c = search rules
@@ -220,7 +220,7 @@ returns-3 c =
     let f = (header w).next_field in
     let g = c.before.before.edited.given in
     let x = entries w _ g.1 in
-    let l = w.edit-entries.new.1.1.1.1.1.1.1 in (
+    let l = w.edit-entries.new.1.1.1.1.1.1 in (
       omega (arith, x.0, ends-together (header w)),
       x.1,
       omega (arith, x.2),
@@ -244,7 +244,7 @@ edit-group-spec =
     returns
     kind-of-requires
     move-left-requires
-    add-t25
+    add-t24
     edit-entries-requires
     enum-known-edited
     enum_told
@@ -252,8 +252,8 @@ edit-group-spec =
     same-length-3
     returns-2
     slice-write-text
-    add-t25-2
-    add-t31
+    add-t24-2
+    add-t30
     same-length-4
     same-length-5
     returns-3)

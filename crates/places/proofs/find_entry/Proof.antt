@@ -31,7 +31,7 @@ refusal-requires c κs = search rules
 
 returns : tie.Need-returns
 returns c =
-    let a = c.before.before.before.before.before.before.before.args in
+    let a = c.before.before.before.before.before.before.args in
     let g = c.before.enum_told.given in
     ap refused (c.refusal.ensures ∙ ap skip_refusal g.1)
     ∙ entry_six a.field.now (tracked_from a.base a.from.0 a.seq.now) _ g.0.0
@@ -48,20 +48,20 @@ enum-told-2 c = search rules
 
 returns-2 : tie.Need-returns-2
 returns-2 c =
-    let a = c.before.before.before.before.before.before.before.before.before.before.args in
+    let a = c.before.before.before.before.before.before.before.before.before.args in
     let g = c.before.before.before.before.read.given in
     entry_seven a.field.now (tracked_from a.base a.from.0 a.seq.now)
-    _ (omega (arith, few c.before.before.before.before.before.before.before.before.before.before)) g.0.0
+    _ (omega (arith, few c.before.before.before.before.before.before.before.before.before)) g.0.0
     (sym (ap skip_says g.1) ∙ c.before.before.before.before.before.before.read-skip.ensures)
     (sym (ap found_says c.enum-told2.given.1) ∙ c.before.before.next-tracked.ensures)
 
 returns-3 : tie.Need-returns-3
 returns-3 c =
-    let a = c.before.before.before.before.before.before.before.before.before.before.before.args in
+    let a = c.before.before.before.before.before.before.before.before.before.before.args in
     let g = c.before.before.before.before.before.read.given in
     let p = c.before.found.given in
     entry_on a.field.now (tracked_from a.base a.from.0 a.seq.now)
-    _ (omega (arith, few c.before.before.before.before.before.before.before.before.before.before.before)) g.0.0
+    _ (omega (arith, few c.before.before.before.before.before.before.before.before.before.before)) g.0.0
     (sym (ap skip_says g.1) ∙ c.before.before.before.before.before.before.before.read-skip.ensures) p.0.0.0
     (sym (ap found_says p.1) ∙ c.before.before.before.next-tracked.ensures)
 

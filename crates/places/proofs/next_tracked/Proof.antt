@@ -12,25 +12,25 @@ use Rattle.places.specs.Walk.{first_of, tracked_from}
 use Rattle.places.proofs.next_tracked.Tie as tie
 
 abbrev invariant-loop : tie.invariant-loop
-invariant-loop seq index base skip ordinal₀ pos₀ ordinal pos =
+invariant-loop seq base skip ordinal₀ pos₀ ordinal pos =
     (pos.0 ≤ length seq) × (ordinal.0 ≤ skip.0)
     × (drop (skip.0 - ordinal₀.0) (tracked_from base pos₀.0 seq) ≡ drop (skip.0 - ordinal.0) (tracked_from base pos.0 seq))
 
 abbrev decreases-loop : tie.decreases-loop
-decreases-loop seq index base skip ordinal₀ pos₀ ordinal pos = length seq - pos.0
+decreases-loop seq base skip ordinal₀ pos₀ ordinal pos = length seq - pos.0
 
 -- what is left to pass where the walk begins
 begun : (k : tie.After-ahead invariant-loop decreases-loop) →
-    let a = k.before.before.before.args in
+    let a = k.before.before.args in
     drop a.skip.0 (tracked_from a.base a.from.0 a.seq.now)
     ≡ drop (a.skip.0 - k.ahead.result.passed) (tracked_from a.base k.ahead.result.place a.seq.now)
 begun k =
-    let a = k.before.before.before.args in
+    let a = k.before.before.args in
     let e = k.ahead.ensures in
     behind_passed a.base a.seq.now a.from.0 k.ahead.result.place a.skip.0 k.ahead.result.passed e.0 e.1 e.2 e.3
 
 ahead-requires : tie.Need-ahead-requires invariant-loop decreases-loop
-ahead-requires c κs = (omega arith, omega arith, c.before.before.requires.2)
+ahead-requires c κs = (omega arith, omega arith)
 
 loop-holds : tie.Need-loop-init invariant-loop decreases-loop
 loop-holds c = (c.ahead.ensures.1, c.ahead.ensures.2, refl)
@@ -45,15 +45,15 @@ returns : tie.Need-returns invariant-loop decreases-loop
 returns c =
     let h = c.before.before.before.before.before.before.before.before.loop in
     let k = c.before.before.before.before.before.before.before.before.before in
-    let a = k.before.before.before.args in
+    let a = k.before.before.args in
     sym (ap first_of (begun k ∙ h.invariant.2 ∙ found_at a.base a.seq.now h.pos.0 (a.skip.0 - h.ordinal.0) (omega arith)
     (sym c.before.before.before.before.counts.ensures ∙ c.before.before.before.if2.true) (omega arith)))
 
-add-t16 : tie.Need-overflow-add-t16 invariant-loop decreases-loop
-add-t16 c = omega arith
+add-t15 : tie.Need-overflow-add-t15 invariant-loop decreases-loop
+add-t15 c = omega arith
 
-add-t11 : tie.Need-overflow-add-t11 invariant-loop decreases-loop
-add-t11 c = omega arith
+add-t10 : tie.Need-overflow-add-t10 invariant-loop decreases-loop
+add-t10 c = omega arith
 
 loop-less : tie.Need-loop-smaller invariant-loop decreases-loop
 loop-less c = omega arith
@@ -61,7 +61,7 @@ loop-less c = omega arith
 loop-again : tie.Need-loop-preserved invariant-loop decreases-loop
 loop-again c =
     let h = c.before.before.before.before.before.loop in
-    let a = c.before.before.before.before.before.before.before.before.before.args in
+    let a = c.before.before.before.before.before.before.before.before.args in
     let i = h.pos.0 in
     let n = a.skip.0 - h.ordinal.0 in
     ⊎_elim
@@ -83,7 +83,7 @@ returns-2 : tie.Need-returns-2 invariant-loop decreases-loop
 returns-2 c =
     let h = c.before.before.loop in
     let k = c.before.before.before in
-    let a = k.before.before.before.args in
+    let a = k.before.before.args in
     sym (ap first_of (begun k ∙ h.invariant.2 ∙ found_end a.base a.seq.now h.pos.0 (a.skip.0 - h.ordinal.0) (omega arith)))
 
 pub next-tracked-spec : {M : Type 1} → statement M
@@ -97,8 +97,8 @@ next-tracked-spec =
     shared-slice-read-counts
     counts-requires
     returns
-    add-t16
-    add-t11
+    add-t15
+    add-t10
     loop-less
     loop-again
     returns-2)

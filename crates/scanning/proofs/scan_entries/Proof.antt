@@ -29,7 +29,7 @@ listed_from seq text ml base values g c n used at from =
     on_done (listed_spots g c n used) (read_spots values nowhere (led_by 44 (up_to 59 (drop at text))) (tracked_from base from seq) (drop used ml))
 
 abbrev invariant-loop : tie.invariant-loop
-invariant-loop seq index text ml base values start groups₀ places₀ starts₀ at₀ used₀ calls₀ from₀ groups places starts at used calls from =
+invariant-loop seq text ml base values start groups₀ places₀ starts₀ at₀ used₀ calls₀ from₀ groups places starts at used calls from =
     (at + length (up_to 59 (drop at text)) ≡ start.at + length (up_to 59 (drop start.at text)))
     × (length (field_of (drop at text)) ≡ 0)
     × (from.0 ≤ length seq) × (used ≤ length ml) × (calls ≤ at) × (start.at ≤ at)
@@ -38,11 +38,11 @@ invariant-loop seq index text ml base values start groups₀ places₀ starts₀
     × (length groups ≡ length groups₀) × (length places ≡ length places₀) × (length starts ≡ length starts₀)
 
 abbrev decreases-loop : tie.decreases-loop
-decreases-loop seq index text ml base values start groups₀ places₀ starts₀ at₀ used₀ calls₀ from₀ groups places starts at used calls from = length text - at
+decreases-loop seq text ml base values start groups₀ places₀ starts₀ at₀ used₀ calls₀ from₀ groups places starts at used calls from = length text - at
 
 -- where an entry lists a base and ML has its values: the place, and the places from the next on
 went : (k : tie.Else2 invariant-loop decreases-loop) →
-    let a = k.before.before.before.before.before.before.before.before.before.before.before.before.before.before.before.before.args in
+    let a = k.before.before.before.before.before.before.before.before.before.before.before.before.before.before.before.args in
     let h = k.before.before.before.before.before.before.before.before.loop in
     let p = k.before.before.entry.given.0.0.0 in
     (read_entry a.values nowhere k.before.before.before.before.before.next_field.result.now
@@ -50,7 +50,7 @@ went : (k : tie.Else2 invariant-loop decreases-loop) →
     ≡ done (p, tracked_from a.base (p + 1) a.seq.now))
     × (p < length a.seq.now)
 went k =
-    let a = k.before.before.before.before.before.before.before.before.before.before.before.before.before.before.before.before.args in
+    let a = k.before.before.before.before.before.before.before.before.before.before.before.before.before.before.before.args in
     let h = k.before.before.before.before.before.before.before.before.loop in
     let g = k.before.before.entry.given in
     entry_went a.values nowhere k.before.before.before.before.before.next_field.result.now h.from.0 a.base a.seq.now
@@ -59,13 +59,13 @@ went k =
 
 -- what the turn's sums stay below
 bounds : (k : tie.Else2 invariant-loop decreases-loop) →
-    let a = k.before.before.before.before.before.before.before.before.before.before.before.before.before.before.before.before.args in
+    let a = k.before.before.before.before.before.before.before.before.before.before.before.before.before.before.before.args in
     let h = k.before.before.before.before.before.before.before.before.loop in
     (h.used + a.values ≤ length a.ml.now) × (length a.ml.now ≤ 65536) × (h.calls ≤ h.at) × (a.start.at ≤ h.at)
     × (h.at + 1 + length k.before.before.before.before.before.next_field.result.now < length a.text.now) ×
     (length a.text.now ≤ 65536)
 bounds k =
-    let a = k.before.before.before.before.before.before.before.before.before.before.before.before.before.before.before.before.args in
+    let a = k.before.before.before.before.before.before.before.before.before.before.before.before.before.before.before.args in
     let h = k.before.before.before.before.before.before.before.before.loop in
     let f = k.before.before.before.before.before.next_field in
     let low : h.at < length a.text.now = omega arith in
@@ -86,8 +86,7 @@ next-field-requires : tie.Need-next-field-requires invariant-loop decreases-loop
 next-field-requires c κs = omega arith
 
 find-entry-requires : tie.Need-find-entry-requires invariant-loop decreases-loop
-find-entry-requires c κs =
-    (omega arith, omega arith, c.before.before.before.before.before.before.before.before.before.before.before.requires.0.3)
+find-entry-requires c κs = omega arith
 
 enum-known-entry : tie.Need-enum-known-entry invariant-loop decreases-loop
 enum-known-entry c = search rules
@@ -110,7 +109,7 @@ same-length-3 c = omega arith
 returns : tie.Need-returns invariant-loop decreases-loop
 unfolding tracked tracked_from
 returns c =
-    let a = c.before.before.before.before.before.before.before.before.before.before.before.before.before.before.before.args in
+    let a = c.before.before.before.before.before.before.before.before.before.before.before.before.before.before.args in
     let h = c.before.before.before.before.before.before.before.loop in
     let f = c.before.before.before.before.next_field in
     let g = c.before.enum_told.given in
@@ -141,7 +140,7 @@ same-length-6 c = omega arith
 returns-2 : tie.Need-returns-2 invariant-loop decreases-loop
 unfolding tracked tracked_from
 returns-2 c =
-    let a = c.before.before.before.before.before.before.before.before.before.before.before.before.before.before.before.before.args in
+    let a = c.before.before.before.before.before.before.before.before.before.before.before.before.before.before.before.args in
     let h = c.before.before.before.before.before.before.before.before.loop in
     let f = c.before.before.before.before.before.next_field in
     let g = c.before.before.entry.given in
@@ -179,7 +178,7 @@ loop-less c = omega (arith, bounds c.before.before.before.before.before.before.b
 loop-again : tie.Need-loop-preserved invariant-loop decreases-loop
 loop-again c =
     let k = c.before.before.before.before.before.before.before.before.before.before.before in
-    let a = k.before.before.before.before.before.before.before.before.before.before.before.before.before.before.before.before.args in
+    let a = k.before.before.before.before.before.before.before.before.before.before.before.before.before.before.before.args in
     let h = k.before.before.before.before.before.before.before.before.loop in
     let f = k.before.before.before.before.before.next_field in
     let w = went k in
@@ -227,7 +226,7 @@ same-length-9 c = omega arith
 returns-3 : tie.Need-returns-3 invariant-loop decreases-loop
 unfolding tracked tracked_from
 returns-3 c =
-    let a = c.before.before.before.before.before.before.before.before.before.before.args in
+    let a = c.before.before.before.before.before.before.before.before.before.args in
     let h = c.before.before.loop in
     let t = a.text.now in
     let places = tracked_from a.base h.from.0 a.seq.now in

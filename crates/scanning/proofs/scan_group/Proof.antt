@@ -20,7 +20,7 @@ use Rattle.scanning.proofs.scan_group.Tie as tie
 
 abbrev entries_at : (w : tie.After-scan-entries) → Cursor
 entries_at w =
-    let s = w.before.before.before.before.before.before.before.before.before.before.before.before.before.before.before.before.args.start in
+    let s = w.before.before.before.before.before.before.before.before.before.before.before.before.before.before.before.args.start in
     record {
       at = s.at + length
           w.before.before.before.before.before.before.before.before.next_field.result.now;
@@ -31,7 +31,7 @@ entries_at w =
 
 abbrev spots_at : (w : tie.After-scan-entries) → Outcome (List Spot × List ℕ)
 spots_at w =
-    let a = w.before.before.before.before.before.before.before.before.before.before.before.before.before.before.before.before.args in
+    let a = w.before.before.before.before.before.before.before.before.before.before.before.before.before.before.before.args in
     read_spots w.before.before.before.before.before.before.values-if.result nowhere
     (led_by 44 (up_to 59 (drop (a.start.at + length w.before.before.before.before.before.before.before.before.next_field.result.now)
     a.text.now)))
@@ -39,25 +39,25 @@ spots_at w =
 
 -- what the entries' contract says of the answer r
 entries : (w : tie.After-scan-entries) (r : Scan) → w.scan-entries.result ≡ r →
-    let a = w.before.before.before.before.before.before.before.before.before.before.before.before.before.before.before.before.args in
-    let l = w.scan-entries.new.1.1.1.1.1.1.1 in
+    let a = w.before.before.before.before.before.before.before.before.before.before.before.before.before.before.before.args in
+    let l = w.scan-entries.new.1.1.1.1.1.1 in
     EntriesScanned a.text.now a.ml.now (entries_at w) (spots_at w) (columns a.groups.now a.places.now a.starts.now) r
     (columns l.0 l.1.0 l.1.1.0)
 entries w r e =
-    let a = w.before.before.before.before.before.before.before.before.before.before.before.before.before.before.before.before.args in
-    let l = w.scan-entries.new.1.1.1.1.1.1.1 in
+    let a = w.before.before.before.before.before.before.before.before.before.before.before.before.before.before.before.args in
+    let l = w.scan-entries.new.1.1.1.1.1.1 in
     subst (λ (x : Scan). EntriesScanned a.text.now a.ml.now (entries_at w) (spots_at w)
     (columns a.groups.now a.places.now a.starts.now) x
     (columns l.0 l.1.0 l.1.1.0)) e w.scan-entries.ensures
 
 -- where the group ends, counted from its header's end and from its start
 ends-together : (s : tie.After-next-field) →
-    let a = s.before.before.before.before.before.before.before.before.args in
+    let a = s.before.before.before.before.before.before.before.args in
     let n = length s.next_field.result.now in
     a.start.at + n + length (up_to 59 (drop (a.start.at + n) a.text.now)) ≡ a.start.at + length
     (up_to 59 (drop a.start.at a.text.now))
 ends-together s =
-    let a = s.before.before.before.before.before.before.before.before.args in
+    let a = s.before.before.before.before.before.before.before.args in
     omega (arith, rest_from a.text.now a.start.at (length s.next_field.result.now) (ap length (sym s.next_field.ensures)))
 
 next-field-requires : tie.Need-next-field-requires
@@ -65,7 +65,7 @@ next-field-requires c κs = search rules
 
 returns : tie.Need-returns
 returns c =
-    let a = c.before.before.before.before.before.before.before.before.before.args in
+    let a = c.before.before.before.before.before.before.before.before.args in
     group_short a.has-ml nowhere a.seq.now a.text.now a.start.at c.before.next_field.result.now c.before.next_field.ensures
     (drop a.start.used a.ml.now) c.if1.true
 
@@ -75,19 +75,19 @@ values-if-requires c κs = omega arith
 base-of-requires : tie.Need-base-of-requires
 base-of-requires c κs = search rules
 
+add-t19 : tie.Need-overflow-add-t19
+add-t19 c = search rules
+
 add-t20 : tie.Need-overflow-add-t20
 add-t20 c = search rules
-
-add-t21 : tie.Need-overflow-add-t21
-add-t21 c = search rules
 
 scan-entries-requires : tie.Need-scan-entries-requires
 scan-entries-requires c κs =
     let s = c.before.before.before.before.before.before.before in
-    let a = s.before.before.before.before.before.before.before.before.args in
+    let a = s.before.before.before.before.before.before.before.args in
     let n = length s.next_field.result.now in
     let e = ends-together s in (
-      (omega arith, omega arith, omega arith, s.before.before.before.before.before.before.before.before.requires.0.3),
+      (omega arith, omega arith, omega arith),
       (omega (arith, e), (field_from a.text.now a.start.at n (ap length (sym s.next_field.ensures)), omega arith)),
     )
 
@@ -109,10 +109,10 @@ same-length-3 c = search rules
 returns-2 : tie.Need-returns-2
 returns-2 c =
     let w = c.before.before.before.before.before.before.before.before in
-    let a = w.before.before.before.before.before.before.before.before.before.before.before.before.before.before.before.before.args in
+    let a = w.before.before.before.before.before.before.before.before.before.before.before.before.before.before.before.args in
     let f = w.before.before.before.before.before.before.before.before.next_field in
     let g = c.enum_told.given in
-    let l = w.scan-entries.new.1.1.1.1.1.1.1 in
+    let l = w.scan-entries.new.1.1.1.1.1.1 in
     subst (λ (x : Scan). GroupScanned a.text.now a.ml.now a.start
     (read_group a.has-ml nowhere a.seq.now (up_to 59 (drop a.start.at a.text.now)) (drop a.start.used a.ml.now))
     (columns a.groups.now a.places.now a.starts.now) x (columns l.0 l.1.0 l.1.1.0)) (sym g.1)
@@ -122,8 +122,8 @@ returns-2 c =
     w.before.before.before.before.before.before.values-if.ensures w.before.before.before.before.before.base-of.ensures g.0.0
     (entries w _ g.1))
 
-add-t17 : tie.Need-overflow-add-t17
-add-t17 c =
+add-t16 : tie.Need-overflow-add-t16
+add-t16 c =
     let w = c.before.before.before.before.before.before.before.before.before.before in
     let x = entries w _ c.before.before.scanned.given.1 in
     omega (
@@ -131,7 +131,7 @@ add-t17 c =
       x.0,
       ends-together
           w.before.before.before.before.before.before.before.before,
-      w.before.before.before.before.before.before.before.before.before.before.before.before.before.before.before.before.requires,
+      w.before.before.before.before.before.before.before.before.before.before.before.before.before.before.before.requires,
     )
 
 same-length-4 : tie.Need-same-length-4
@@ -146,7 +146,7 @@ same-length-6 c = search rules
 returns-3 : tie.Need-returns-3
 returns-3 c =
     let w = c.before.before.before.before.before.before.before.before.before.before in
-    let a = w.before.before.before.before.before.before.before.before.before.before.before.before.before.before.before.before.args in
+    let a = w.before.before.before.before.before.before.before.before.before.before.before.before.before.before.before.args in
     let f = w.before.before.before.before.before.before.before.before.next_field in
     let g = c.before.before.scanned.given in
     let x = entries w _ g.1 in (
@@ -170,8 +170,8 @@ scan-group-spec =
     returns
     values-if-requires
     base-of-requires
+    add-t19
     add-t20
-    add-t21
     scan-entries-requires
     enum-known-scanned
     enum_told
@@ -179,7 +179,7 @@ scan-group-spec =
     same-length-2
     same-length-3
     returns-2
-    add-t17
+    add-t16
     same-length-4
     same-length-5
     same-length-6

@@ -13,11 +13,11 @@ use Rattle.strides.specs.Counts.{hold_both}
 use Rattle.strides.proofs.both_in_block.Tie as tie
 
 abbrev invariant-loop : tie.invariant-loop
-invariant-loop seq from after there size base n₀ i₀ n i =
-    (i ≤ size) × (n ≤ i) × (n ≡ hold_both base (take i (drop from seq)) (take i (drop there after)))
+invariant-loop seq from after there base n₀ i₀ n i =
+    (i ≤ 32) × (n ≤ i) × (n ≡ hold_both base (take i (drop from seq)) (take i (drop there after)))
 
 abbrev decreases-loop : tie.decreases-loop
-decreases-loop seq from after there size base n₀ i₀ n i = size - i
+decreases-loop seq from after there base n₀ i₀ n i = 32 - i
 
 loop-holds : tie.Need-loop-init invariant-loop decreases-loop
 loop-holds c = (omega arith, omega arith, refl)
@@ -56,7 +56,7 @@ loop-again c =
     let a = s.args in (
       omega arith,
       omega (arith, one_at_most (eqb (get_or a.seq.now (a.from + h.i) 0) a.base && eqb (get_or a.after.now (a.there + h.i) 0) a.base)),
-      omega (arith, both_on a.base s.requires.3 a.seq.now a.after.now a.from a.there h.i (omega arith) (omega arith)),
+      omega (arith, both_on a.base s.requires.2 a.seq.now a.after.now a.from a.there h.i (omega arith) (omega arith)),
     )
 
 cast-result : tie.Need-overflow-cast-result invariant-loop decreases-loop
@@ -66,7 +66,7 @@ returns : tie.Need-returns invariant-loop decreases-loop
 returns c =
     let h = c.before.loop in
     let a = c.before.before.args in
-    let e : h.i ≡ a.size = omega arith in
+    let e : h.i ≡ 32 = omega arith in
     h.invariant.2 ∙ ap (λ (k : ℕ). hold_both a.base (take k (drop a.from a.seq.now)) (take k (drop a.there a.after.now))) e
 
 pub both-in-block-spec : {M : Type 1} → statement M

@@ -28,30 +28,30 @@ returns : tie.Need-returns
 returns c =
     let s = c.before.before.before in
     let a = s.args in
-    s.requires.4 ∙ sym (all_held a.window a.after.now a.base a.seq.now a.place 32 s.requires.2 c.if1.true s.requires.0)
+    s.requires.4 ∙ sym (all_held a.window a.after.now a.base a.seq.now a.place s.requires.2 c.if1.true s.requires.0)
 
 returns-2 : tie.Need-returns-2
 returns-2 c =
     let s = c.before.before.before.before.before in
     let a = s.args in
     let early : a.place + 32 ≤ a.window.lo = ⊎_elim (λ e. e) (λ e. omega (arith, e.0)) (apart c.before.before) in
-    sym (none_before a.window.lo a.after.now a.base a.seq.now a.place 32 s.requires.0 early)
+    sym (none_before a.window.lo a.after.now a.base a.seq.now a.place s.requires.0 early)
 
 returns-3 : tie.Need-returns-3
 returns-3 c =
     let s = c.before.before.before.before.before.before.before in
     let a = s.args in
-    sym (none_past a.window.lo a.after.now a.base a.seq.now a.place 32 s.requires.0 (omega arith) (omega arith))
+    sym (none_past a.window.lo a.after.now a.base a.seq.now a.place s.requires.0 (omega arith) (omega arith))
 
 both-in-block-requires : tie.Need-both-in-block-requires
-both-in-block-requires c κs = let s = c.before.before.before.before.before.before.before in (s.requires.0, inside c, omega arith, s.requires.1)
+both-in-block-requires c κs = let s = c.before.before.before.before.before.before.before in (s.requires.0, inside c, s.requires.1)
 
 returns-4 : tie.Need-returns-4
 returns-4 c =
     let s = c.before.before.before.before.before.before.before.before in
     let a = s.args in
     c.both-in-block.ensures
-    ∙ sym (both_inside a.window.lo a.after.now a.base a.seq.now a.place 32 s.requires.0 (omega arith) (inside c.before))
+    ∙ sym (both_inside a.window.lo a.after.now a.base a.seq.now a.place s.requires.0 (omega arith) (inside c.before))
 
 pub held-in-block-spec : {M : Type 1} → statement M
 held-in-block-spec = tie.close (tie.spec returns returns-2 returns-3 both-in-block-requires returns-4)

@@ -36,7 +36,7 @@ few c =
     let l = take (h.i + 128) a.seq.now in
     omega (arith, more c, filter_length (holds a.base) l, length-take (h.i + 128) a.seq.now)
 
-last-few : (c : tie.After-count-block2 invariant-loop decreases-loop) → c.count-block2.result ≤ 65536
+last-few : (c : tie.After-count-block2 invariant-loop decreases-loop) → c.count-block2.result ≤ 16000
 last-few c =
     let h = c.before.before.loop in
     let a = c.before.before.before.before.before.args in

@@ -44,7 +44,7 @@ turned c =
     let sizes = length-append (between a.base a.seq.now a.from h.place) (between a.base a.seq.now h.place (h.place + 32)) in
     let counted = c.before.before.before.count-block.ensures in
     let held = held_append a.window.lo a.after.now a.base a.seq.now a.from h.place (h.place + 32) h.invariant.0 h.invariant.1 (omega arith) in (
-      omega (arith, h.invariant.3, counted, block_count a.base a.seq.now h.place 32, sizes, ap length ps),
+      omega (arith, h.invariant.3, counted, block_count a.base a.seq.now h.place, sizes, ap length ps),
       omega (arith, h.invariant.4, c.held-in-block.ensures, held),
     )
 
@@ -55,10 +55,10 @@ few : (c : tie.After-held-in-block invariant-loop decreases-loop) →
 few c = omega arith
 
 -- no more are held than were passed
-held_few : (c : tie.After-held-in-block invariant-loop decreases-loop) →
+held-few : (c : tie.After-held-in-block invariant-loop decreases-loop) →
     let h = c.before.before.before.before.before.before.before.loop in
     h.held + c.held-in-block.result ≤ h.passed + c.before.before.before.count-block.result
-held_few c =
+held-few c =
     let h = c.before.before.before.before.before.before.before.loop in
     let a = c.before.before.before.before.before.before.before.before.before.before.args in
     omega (arith, turned c, filter_length (held_there a.window.lo a.after.now a.base) (between a.base a.seq.now a.from (h.place + 32)))
@@ -109,7 +109,7 @@ held-in-block-requires c κs =
     )
 
 add-held : tie.Need-overflow-add-held invariant-loop decreases-loop
-add-held c = omega (arith, held_few c, few c)
+add-held c = omega (arith, held-few c, few c)
 
 add-passed : tie.Need-overflow-add-passed invariant-loop decreases-loop
 add-passed c = omega (arith, few c)
