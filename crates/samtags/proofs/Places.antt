@@ -1,6 +1,6 @@
 -- The tracked places of a SEQ after it is masked or cut.
 -- Assumes nothing.
-use mathlib.Core.Path.{◌≡◌, refl, sym, ap, ◌∙◌}
+use mathlib.Core.Path.{◌≡◌, refl, sym, ap, subst, ◌∙◌}
 use Prim.Native.Nat.{ℕ, zero, suc, ◌+◌, ◌-◌, ◌≤◌, ◌<◌}
 use native.Mathlib.Omega.{arith}
 use mathlib.Core.Bool.{Bool, true, false, cond, not, ◌&&◌, ◌||◌, or-true}
@@ -64,9 +64,11 @@ places_take t zero i xs = places_none t (i + 0) i xs (omega arith)
 places_take t (suc n) i [] = refl
 places_take t (suc n) i (x ∷ xs) =
     let next : i + suc n ≡ suc i + n = omega arith in
+    let rest : filter (λ p. ltb p (i + suc n)) (places_from t (suc i) xs) ≡ places_from t (suc i) (take n xs) =
+        subst (λ (m : ℕ). filter (λ p. ltb p m) (places_from t (suc i) xs) ≡ places_from t (suc i) (take n xs)) (sym next) (places_take t n (suc i) xs) in
     by-test (t x)
-    (λ e. rw (e, lt-ltb i (i + suc n) (omega arith), next, places_take t n (suc i) xs))
-    (λ e. rw (e, next) (places_take t n (suc i) xs))
+    (λ e. rw (e, lt-ltb i (i + suc n) (omega arith)) (ap (λ (r : List ℕ). i ∷ r) rest))
+    (λ e. rw e rest)
 
 places_below : (t : ℕ → Bool) (m i : ℕ) (xs : List ℕ) → i + length xs ≤ m → Agree (inside 0 m) (λ p. true) (places_from t i xs)
 places_below t m i [] h = tt

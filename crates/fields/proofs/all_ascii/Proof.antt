@@ -3,7 +3,7 @@
 use mathlib.Core.Path.{◌∙◌, ◌≡◌, ap, refl, sym}
 use Prim.Native.Nat.{◌+◌, ◌-◌, ◌≤◌}
 use native.Mathlib.Omega.{arith}
-use mathlib.Core.Bool.{and-false, and_true}
+use mathlib.Core.Bool.{and-false, and-true}
 use mathlib.Core.Logic.{⊎_elim}
 use lib.ListN.{get_or, length, take}
 use lib.Seq.{take_all}
@@ -39,7 +39,7 @@ loop-again c =
     let more = every_more is_ascii l h.i 0 (omega arith) in
     ⊎_elim
     (λ w. rw w.1 (omega arith, sym (more ∙ rw (lt-leb (get_or l h.i 0) 127 (omega arith)) (and-false (every is_ascii (take h.i l))))))
-    (λ w. rw w.1 (omega arith, h.invariant.1 ∙ sym (more ∙ rw (le-leb (get_or l h.i 0) 127 (omega arith)) (and_true (every is_ascii (take h.i l))))))
+    (λ w. rw w.1 (omega arith, h.invariant.1 ∙ sym (more ∙ rw (le-leb (get_or l h.i 0) 127 (omega arith)) (and-true (every is_ascii (take h.i l))))))
     c.if1.branch
 
 returns : tie.Need-returns invariant-loop decreases-loop

@@ -3,7 +3,7 @@
 use mathlib.Core.Path.{◌∙◌, ◌≡◌, ap, sym}
 use Prim.Native.Nat.{◌+◌, ◌-◌, ◌≤◌, ℕ}
 use native.Mathlib.Omega.{arith}
-use mathlib.Core.Bool.{Bool, and-false, and_true, ◌&&◌}
+use mathlib.Core.Bool.{Bool, and-false, and-true, ◌&&◌}
 use lib.ListN.{drop, length, length-drop}
 use borrow.Author.Rules.{rules}
 use borrow.Author.Tests.{le-leb, lt-leb}
@@ -69,7 +69,7 @@ loop-again c =
     let a = c.before.before.before.before.before.before.before.before.before.args in
     let stands = sym c.stands.ensures in
     by-test c.stands.result
-    (λ e. rw (e, and_true h.lies) (
+    (λ e. rw (e, and-true h.lies) (
       omega arith,
       omega arith,
       h.invariant.2 ∙ ap (λ (t : Bool). h.lies && t)
@@ -87,7 +87,7 @@ returns-3 c =
     let h = c.before.loop in
     let a = c.before.before.before.before.before.before.args in
     rw (le-leb a.lo (length a.seq.now) (omega arith))
-    (sym (h.invariant.2 ∙ rw (lies_end a.after.now a.seq.now a.lo h.i (omega arith)) (and_true h.lies)))
+    (sym (h.invariant.2 ∙ rw (lies_end a.after.now a.seq.now a.lo h.i (omega arith)) (and-true h.lies)))
 
 pub lies-in-spec : {M : Type 1} → statement M
 lies-in-spec =

@@ -1,0 +1,27 @@
+use mathlib.Core.Path.{◌≡◌}
+use Prim.Native.Nat.{◌+◌, ◌-◌}
+use native.Mathlib.Omega.{arith}
+use lib.ListN.{length, drop}
+use Rattle.cigar.specs.Cigar.{bases_taken, query_length}
+use Rattle.cigar.proofs.Totals.{total_step, total_end}
+use Rattle.cigar.proofs.query_length.Goals as goal
+use Rattle.cigar.proofs.query_length.Goals.{After-bases_taken-sum}
+
+-- with the next word's share
+step : (c : After-bases_taken-sum)
+    → c.loop-i.sum + c.bases_taken-sum.result
+    + query_length (drop (c.loop-i.i + 1) c.args.cigar.now)
+    ≡ query_length c.args.cigar.now
+step c =
+    total_step bases_taken c.args.cigar.now c.loop-i.i c.loop-i.sum c.bases_taken-sum.result
+    (omega arith) c.bases_taken-sum.ensures c.loop-i.invariant.1
+
+pub overflow_add-sum : goal.overflow_add-sum
+overflow_add-sum c = omega (arith, step c)
+
+pub loop-i-preserved : goal.loop-i-preserved
+loop-i-preserved c = (omega arith, step c)
+
+pub returns : goal.returns
+returns c =
+    omega (arith, total_end bases_taken c.args.cigar.now c.loop-i.i (omega arith))
