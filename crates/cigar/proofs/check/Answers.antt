@@ -10,29 +10,22 @@ use Rattle.lent.specs.Lists.{every}
 use Rattle.cigar.specs.Cigar.{is_known, bases_taken, query_length, is_start}
 use Rattle.cigar.proofs.Totals.{bases_at_most, total_at_most}
 use Rattle.cigar.proofs.check.Goals as goal
-use Rattle.cigar.proofs.check.Goals.{After-is_start, Else-not-all_known, Else-not-is_start}
-
--- what each test says, and what holds where it was passed
-known : (c : Else-not-all_known) → every is_known c.args.cigar.now ≡ true
-known c = sym c.all_known.ensures ∙ c.if-not-all_known.false
-
-asked : (c : After-is_start) → c.is_start.result ≡ is_start c.args.start
-asked c = rw (to_z-of_z c.ranges.start) at c.is_start.ensures
-
-starts : (c : Else-not-is_start) → is_start c.args.start ≡ true
-starts c = sym (asked c.before) ∙ c.if-not-is_start.false
 
 pub returns-then-not-all_known : goal.returns-then-not-all_known
 returns-then-not-all_known c = rw (sym c.all_known.ensures ∙ c.if-not-all_known.true)
 
 pub returns-then-not-is_start : goal.returns-then-not-is_start
-returns-then-not-is_start c = rw (known c.before.before, sym (asked c.before) ∙ c.if-not-is_start.true)
+returns-then-not-is_start c =
+    let known : every is_known c.args.cigar.now ≡ true = sym c.all_known.ensures ∙ c.if-not-all_known.false in
+    let asked : c.is_start.result ≡ is_start c.args.start = rw (to_z-of_z c.ranges.start) at c.is_start.ensures in
+    rw (known, sym (asked) ∙ c.if-not-is_start.true)
 
 pub returns-then-cigar-gt65535 : goal.returns-then-cigar-gt65535
 returns-then-cigar-gt65535 c =
-    let s = c.before in
-    let k = s.before.before in
-    rw (known k, starts s, lt-leb (length k.args.cigar.now) 65535 (omega arith))
+    let known : every is_known c.args.cigar.now ≡ true = sym c.all_known.ensures ∙ c.if-not-all_known.false in
+    let asked : c.is_start.result ≡ is_start c.args.start = rw (to_z-of_z c.ranges.start) at c.is_start.ensures in
+    let starts : is_start c.args.start ≡ true = sym (asked) ∙ c.if-not-is_start.false in
+    rw (known, starts, lt-leb (length c.args.cigar.now) 65535 (omega arith))
 
 pub query_length-bases-requires : goal.query_length-bases-requires
 query_length-bases-requires c =
@@ -40,19 +33,21 @@ query_length-bases-requires c =
 
 pub returns-then-bases-gt16000 : goal.returns-then-bases-gt16000
 returns-then-bases-gt16000 c =
-    let s = c.before.before.before in
-    let k = s.before.before in
-    let words = k.args.cigar.now in
-    rw (known k, starts s, le-leb (length words) 65535 (omega arith), lt-leb (query_length words) 16000 (omega (arith, c.query_length-bases.ensures)))
+    let known : every is_known c.args.cigar.now ≡ true = sym c.all_known.ensures ∙ c.if-not-all_known.false in
+    let asked : c.is_start.result ≡ is_start c.args.start = rw (to_z-of_z c.ranges.start) at c.is_start.ensures in
+    let starts : is_start c.args.start ≡ true = sym (asked) ∙ c.if-not-is_start.false in
+    let words = c.args.cigar.now in
+    rw (known, starts, le-leb (length words) 65535 (omega arith), lt-leb (query_length words) 16000 (omega (arith, c.query_length-bases.ensures)))
 
 pub returns : goal.returns
 returns c =
-    let s = c.before.before.before in
-    let k = s.before.before in
-    let words = k.args.cigar.now in
+    let known : every is_known c.args.cigar.now ≡ true = sym c.all_known.ensures ∙ c.if-not-all_known.false in
+    let asked : c.is_start.result ≡ is_start c.args.start = rw (to_z-of_z c.ranges.start) at c.is_start.ensures in
+    let starts : is_start c.args.start ≡ true = sym (asked) ∙ c.if-not-is_start.false in
+    let words = c.args.cigar.now in
     rw (
-      known k,
-      starts s,
+      known,
+      starts,
       le-leb (length words) 65535 (omega arith),
       le-leb (query_length words) 16000 (omega (arith, c.query_length-bases.ensures)),
       c.query_length-bases.ensures,
