@@ -1,0 +1,9 @@
+-- `turned_first_table`: each entry is the first letter of its index, a packed pair that is turned. All 256 are shown at once.
+-- Assumes nothing.
+use mathlib.Core.Path.{refl}
+use Rattle.packed.specs.Packed.{complement}
+use Rattle.packed.proofs.turned_first_table.Goals as goal
+
+pub returns : goal.returns
+unfolding complement
+returns c = refl
