@@ -12,7 +12,7 @@ use operands::Ends;
 use stepping::{Lengths, Stepped};
 
 // The answer to a line: that the line is bad, or a number and the session's lengths after the line.
-#[derive(Drop)]
+#[derive(Clone, Copy)]
 pub enum Answered {
     Bad,
     With(usize, Lengths),

@@ -18,7 +18,7 @@ use places::Place;
 use strides::Window;
 
 // The state of a walk: the next byte of the text, the next value of ML, and the end of the written part of each row.
-#[derive(Drop)]
+#[derive(Clone, Copy)]
 pub struct Cursor {
     pub at: usize,
     pub used: usize,
@@ -51,7 +51,7 @@ impl Cursor {
     }
 }
 
-#[derive(Drop)]
+#[derive(Clone, Copy)]
 pub enum Edited {
     To(Cursor),
     Refused(Refusal),

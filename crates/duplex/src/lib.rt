@@ -15,7 +15,7 @@ use lent::Refusal;
 use pattern::{ConversionPattern, MethylationMode};
 
 // How many entries of each row an answer fills, or how many a caller lends.
-#[derive(Drop)]
+#[derive(Clone, Copy)]
 pub struct Lengths {
     pub seq: usize,
     pub mm: usize,
@@ -31,14 +31,14 @@ pub struct Lengths {
 }
 
 // How many entries of each row are filled, or why nothing was written.
-#[derive(Drop)]
+#[derive(Clone, Copy)]
 pub enum Duplex {
     Done(Lengths),
     Refused(Refusal),
 }
 
 // The result of the first pass: the lengths of the strands' own tags, or why the call is refused.
-#[derive(Drop)]
+#[derive(Clone, Copy)]
 pub enum Measured {
     Done(BothSizes),
     Refused(Refusal),

@@ -17,7 +17,7 @@ use places::{Ordinal, Place};
 use strides::{Stride, Window};
 
 // What a group's header says of each entry: the base that it counts, how many values of ML it takes, and whether the group may lose a call.
-#[derive(Drop)]
+#[derive(Clone, Copy)]
 pub struct Kind {
     pub base: u8,
     pub values: usize,
@@ -41,7 +41,7 @@ pub fn kind_of(has_ml: bool, header: &[u8]) -> Kind
 }
 
 // The place of an entry's base, and how many of the bases that it passes are still of the group's kind; or why there is no such base.
-#[derive(Drop)]
+#[derive(Clone, Copy)]
 pub enum Reached {
     On(Place, Ordinal),
     Refused(Refusal),
@@ -211,7 +211,7 @@ pub fn put_skip(out: &mut [u8], at: usize, skip: usize) -> usize
 }
 
 // The end of the written part of each row, and how many of the group's bases were passed since the last call that stays.
-#[derive(Drop)]
+#[derive(Clone, Copy)]
 pub struct Pen {
     pub end: usize,
     pub kept: usize,

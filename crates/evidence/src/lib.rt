@@ -13,7 +13,7 @@ use pattern::ConversionPattern;
 
 // The evidence of one position: whether it carries a call for the strand, and how many of the counted reads show the unconverted and the converted
 // base there.
-#[derive(Drop)]
+#[derive(Clone, Copy)]
 pub struct MethylationEvidence {
     pub informative: bool,
     pub unconverted: u32,

@@ -31,7 +31,7 @@ fn all_records() -> [MethylationEvidence; 16001] {
 }
 
 // The answer of the call, and the whole array after the call.
-#[derive(Drop)]
+#[derive(Clone, Copy)]
 struct Left {
     answer: Written,
     row: [MethylationEvidence; 16001],

@@ -176,7 +176,7 @@ pub fn join<'a>(
 // ---- the strands' own tags
 
 // The lengths of each strand's own tag.
-#[derive(Drop)]
+#[derive(Clone, Copy)]
 pub struct BothSizes {
     pub first_text: usize,
     pub first_values: usize,

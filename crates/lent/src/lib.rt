@@ -7,18 +7,18 @@ ghost use Rattle.std.specs.Prelude.{◌≡◌};
 ghost use Rattle.lent.specs.Outcome.{tag_refusal};
 
 // The reason of a refusal: a number of the scope's table. The function that finds the reason makes it, and its callers pass it on unchanged.
-#[derive(Drop)]
+#[derive(Clone, Copy)]
 pub struct Refusal(pub u8);
 
 // The answer of a call that fills lent rows or works in them: how many entries of each row the answer takes, or why nothing was written.
-#[derive(Drop)]
+#[derive(Clone, Copy)]
 pub enum Written {
     Done(usize),
     Refused(Refusal),
 }
 
 // The answer of a call that writes a tag: how many bytes of text and how many values of ML it takes, or why nothing was written.
-#[derive(Drop)]
+#[derive(Clone, Copy)]
 pub enum Tagged {
     Done(usize, usize),
     Refused(Refusal),

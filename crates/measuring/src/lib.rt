@@ -12,7 +12,7 @@ use lent::Refusal;
 use numbers::Skip;
 
 // The state of a walk: the next byte of the text, the next value of ML, and how many groups and calls were passed.
-#[derive(Drop)]
+#[derive(Clone, Copy)]
 pub struct Count {
     pub at: usize,
     pub used: usize,
@@ -22,7 +22,7 @@ pub struct Count {
 
 // How far the walk came, or why the tag is refused. `Unsure` if calls are to be dropped and a group's header does not allow it. Then only the places
 // tell whether the tag is refused with 10 before an error further right.
-#[derive(Drop)]
+#[derive(Clone, Copy)]
 pub enum Counted {
     To(Count),
     Refused(Refusal),

@@ -6,7 +6,7 @@ use lent::Refusal;
 use pattern::MethylationMode;
 
 // What a number says: a chemistry, or a refusal if it names none.
-#[derive(Drop)]
+#[derive(Clone, Copy)]
 pub enum Mode {
     Known(MethylationMode),
     Refused(Refusal),

@@ -8,7 +8,7 @@ ghost use Rattle.numbers.specs.Answers.{skip_says, skip_refusal};
 use lent::Refusal;
 
 // What a field says: how many bases to pass over, or why it is no skip.
-#[derive(Drop)]
+#[derive(Clone, Copy)]
 pub enum Skip {
     Of(usize),
     Refused(Refusal),

@@ -10,21 +10,21 @@ ghost use Rattle.operands.specs.Answers.{number_says, number_to, ends_says, Valu
 use numbers::Skip;
 
 // What a field says: a number, or that its line is bad.
-#[derive(Drop)]
+#[derive(Clone, Copy)]
 pub enum Number {
     Of(usize),
     Bad,
 }
 
 // How many values were written, or that their line is bad.
-#[derive(Drop)]
+#[derive(Clone, Copy)]
 pub enum Values {
     Of(usize),
     Bad,
 }
 
 // Bases off the front and off the back, or that the line is bad.
-#[derive(Drop)]
+#[derive(Clone, Copy)]
 pub enum Ends {
     Of(u32, u32),
     Bad,

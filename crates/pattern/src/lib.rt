@@ -35,14 +35,14 @@ pub fn eq_ignore_ascii_case(a: u8, b: u8) -> bool
 
 // How a read displays conversions in its own orientation. In a directional library R1 and unpaired reads are the original strand's own
 // sequence, so conversions show as C to T; R2 is its complement, so they show as G to A.
-#[derive(Drop)]
+#[derive(Clone, Copy)]
 pub enum ConversionPattern {
     CToT,
     GToA,
 }
 
 // A pattern's three bases: the reference base that marks an informative place, and the bases that a read shows there if unconverted and if converted.
-#[derive(Drop)]
+#[derive(Clone, Copy)]
 pub struct Bases {
     pub reference: u8,
     pub unconverted: u8,
@@ -108,7 +108,7 @@ impl ConversionPattern {
 }
 
 // The chemistry. It decides whether an unconverted or a converted base is evidence for methylation.
-#[derive(Drop)]
+#[derive(Clone, Copy)]
 pub enum MethylationMode {
     Disabled,
     EmSeq,

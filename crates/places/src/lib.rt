@@ -10,14 +10,14 @@ use numbers::Skip;
 use strides::{Stride, Window};
 
 // How many of the group's bases were passed.
-#[derive(Drop)]
+#[derive(Clone, Copy)]
 pub struct Ordinal(pub usize);
 
 // A place in SEQ.
-#[derive(Drop)]
+#[derive(Clone, Copy)]
 pub struct Place(pub usize);
 
-#[derive(Drop)]
+#[derive(Clone, Copy)]
 pub enum Found {
     At(Place),
     Nothing,
@@ -63,7 +63,7 @@ pub fn next_tracked(seq: &[u8], base: u8, from: Place, skip: Ordinal) -> Found
 }
 
 // The place of an entry's base, or why there is none.
-#[derive(Drop)]
+#[derive(Clone, Copy)]
 pub enum Entry {
     On(Place),
     Refused(Refusal),

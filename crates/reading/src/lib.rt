@@ -13,14 +13,14 @@ use lent::Refusal;
 use measuring::Counted;
 
 // A tag that was read, with its number of groups and of calls, or why it was refused.
-#[derive(Drop)]
+#[derive(Clone, Copy)]
 pub enum Reading {
     Done(usize, usize),
     Refused(Refusal),
 }
 
 // How many values of a tag's ML are above (128 or more) and how many below, or why the tag was refused.
-#[derive(Drop)]
+#[derive(Clone, Copy)]
 pub enum Tallied {
     Done(usize, usize),
     Refused(Refusal),

@@ -16,7 +16,7 @@ use record_fields::sizes::{half_at, word_at};
 use record_fields::{AM, BM, Head, ML, MM};
 
 // A record whose head, fields and lengths are in order, or why it is refused.
-#[derive(Drop)]
+#[derive(Clone, Copy)]
 pub enum Opened {
     To(Head),
     Refused(Refusal),

@@ -13,7 +13,7 @@ ghost use Rattle.record_fields.specs.Spots.{Spots};
 use sizes::{half_at, word_at};
 
 // What the head says: the flag 0x10, the number of bases, and where SEQ and the optional fields begin.
-#[derive(Drop)]
+#[derive(Clone, Copy)]
 pub struct Head {
     pub reverse: bool,
     pub bases: usize,

@@ -18,7 +18,7 @@ use record_rows::put_bytes;
 use record_tags::{ALONE, GOES, GOES_THEN_LENGTH, LENGTH, PAIRED, VALUES};
 
 // The end of the written part, and how many bytes of the edited tag wait in the work row: its values, its text, or neither.
-#[derive(Drop)]
+#[derive(Clone, Copy)]
 pub struct Pen {
     pub end: usize,
     pub kept: usize,

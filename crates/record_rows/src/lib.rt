@@ -149,7 +149,7 @@ pub fn accepts(
 }
 
 // How many bytes of text and how many values of ML an edited tag takes.
-#[derive(Drop)]
+#[derive(Clone, Copy)]
 pub struct Sizes {
     pub text: usize,
     pub values: usize,

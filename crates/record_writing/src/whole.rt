@@ -14,7 +14,7 @@ use record_rows::put_bytes;
 use record_tags::LENGTH;
 
 // The answer of a call on a record: how long the new record is and whether a field went, or why nothing was written.
-#[derive(Drop)]
+#[derive(Clone, Copy)]
 pub enum Recorded {
     Done(usize, bool),
     Refused(Refusal),

@@ -13,7 +13,7 @@ ghost use Rattle.rewriting.specs.PublicContracts.{Masks, Drops, Trims};
 use lent::{Refusal, Tagged};
 
 // The place of the old SEQ where the edited SEQ begins.
-#[derive(Drop)]
+#[derive(Clone, Copy)]
 pub enum WindowStart {
     Known(usize),
     Unknown,

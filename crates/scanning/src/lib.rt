@@ -13,7 +13,7 @@ use lent::Refusal;
 use places::{Entry, Place, find_entry};
 
 // The state of a walk: the next byte of the text, the next value of ML, and how many groups and calls were passed.
-#[derive(Drop)]
+#[derive(Clone, Copy)]
 pub struct Cursor {
     pub at: usize,
     pub used: usize,
@@ -21,7 +21,7 @@ pub struct Cursor {
     pub calls: usize,
 }
 
-#[derive(Drop)]
+#[derive(Clone, Copy)]
 pub enum Scan {
     To(Cursor),
     Refused(Refusal),

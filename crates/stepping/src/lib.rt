@@ -10,7 +10,7 @@ ghost use Rattle.std.specs.Prelude.{◌≡◌, cond};
 use lent::Refusal;
 
 // How much of each lent row a session holds. A step takes the lengths by value and answers the new ones.
-#[derive(Drop)]
+#[derive(Clone, Copy)]
 pub struct Lengths {
     pub seq: usize,
     pub mm: usize,
@@ -18,7 +18,7 @@ pub struct Lengths {
 }
 
 // The answer of a step: the session's new lengths, or why nothing was changed. 21, a cut of nothing, is represented in the same way.
-#[derive(Drop)]
+#[derive(Clone, Copy)]
 pub enum Stepped {
     Done(Lengths),
     Refused(Refusal),

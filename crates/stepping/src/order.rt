@@ -8,7 +8,7 @@ use crate::Lengths;
 use lent::Refusal;
 
 // Whether lengths are in order, or why not.
-#[derive(Drop)]
+#[derive(Clone, Copy)]
 pub enum Order {
     Kept,
     Refused(Refusal),

@@ -17,14 +17,14 @@ use pattern::{ConversionPattern, MethylationMode};
 const POSITIONS: usize = 16000;
 
 // The ML value of the call at a place, if there is one.
-#[derive(Drop)]
+#[derive(Clone, Copy)]
 pub enum Called {
     Value(u8),
     Nothing,
 }
 
 // The state of a writer: the number of bases of the group's letter since the last call, the next byte of the text, the next value of ML.
-#[derive(Drop)]
+#[derive(Clone, Copy)]
 pub struct Pen {
     pub skip: usize,
     pub text: usize,
@@ -32,7 +32,7 @@ pub struct Pen {
 }
 
 // How many bytes of text and values of ML a strand's tag takes.
-#[derive(Drop)]
+#[derive(Clone, Copy)]
 pub struct Sizes {
     pub text: usize,
     pub values: usize,

@@ -6,7 +6,7 @@ ghost use Rattle.samtags.specs.Spots.{holds, tracked};
 ghost use Rattle.strides.specs.Counts.{Told, Undivided, between, held_between, hold_both};
 
 // The offset of the edited SEQ in the old one, and whether the edited SEQ is SEQ itself. If it is, no passed base is checked for being held.
-#[derive(Drop)]
+#[derive(Clone, Copy)]
 pub struct Window {
     pub lo: usize,
     pub same: bool,
@@ -95,7 +95,7 @@ fn held_in_block(
 }
 
 // How far a walk came: its place, how many of the bases to pass it has passed, and how many of those are still held.
-#[derive(Drop)]
+#[derive(Clone, Copy)]
 pub struct Stride {
     pub place: usize,
     pub passed: usize,

@@ -14,4 +14,4 @@ pub returns : goal.returns
 returns c =
     let a = c.args in
     let small : a.n < 10 = omega arith in
-    (omega (arith, length_small a.n small), c.put.ensures ∙ ap (sets a.out-1.now a.at) (sym (digits_small a.n small)))
+    (omega (arith, length_small a.n small), c.put.ensures ∙ ap (sets a.out.now a.at) (sym (digits_small a.n small)))

@@ -24,7 +24,7 @@ loop-i-preserved c =
     let i = c.loop-i.i in (
       omega arith,
       simp length-set (omega arith),
-      rw (c.loop-i.invariant.2, to_z-of_z {w = w64} (record { sfits = c.place_of-at.type-inv }), c.place_of-at.ensures, run_more a.is_reverse a.place i)
+      rw (c.loop-i.invariant.2, to_z-of_z {w = w64} (record { sfits = c.place_of-at.type_inv }), c.place_of-at.ensures, run_more a.is_reverse a.place i)
           (over_one_more (run a.is_reverse a.place i) a.out.now i (place_of a.is_reverse a.place i)
           (length_run a.is_reverse a.place i) (omega arith)),
     )

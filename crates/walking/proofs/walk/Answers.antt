@@ -10,7 +10,7 @@ use Rattle.walking.proofs.walk.Goals as goal
 pub loop-i-init : goal.loop-i-init
 loop-i-init c =
     let a = c.args in
-    come_start a.is_reverse a.outset (in_order_of a.is_reverse a.cigar.now) a.positions-1.now
+    come_start a.is_reverse a.outset (in_order_of a.is_reverse a.cigar.now) a.positions.now
     (rw (total_in_order bases_taken a.is_reverse a.cigar.now) c.requires.0)
     (rw (total_in_order places_taken a.is_reverse a.cigar.now) c.requires.1)
 
@@ -18,28 +18,28 @@ pub offset_bounds-positions-at : goal.offset_bounds-positions-at
 offset_bounds-positions-at c =
     let among : c.loop-i.i < length (in_order_of c.args.is_reverse c.args.cigar.now) = (let a = c.args in
     rw (length_in_order a.is_reverse a.cigar.now) c.loop-i-test.true) in
-    let room : c.loop-i.at + bases_taken c.word_at-word.result ≤ length c.loop-i.positions-1 = come_room c.loop-i.invariant c.word_at-word.result (among) c.word_at-word.ensures in
+    let room : c.loop-i.at + bases_taken c.word_at-word.result ≤ length c.loop-i.positions = come_room c.loop-i.invariant c.word_at-word.result (among) c.word_at-word.ensures in
     omega (arith, room)
 
 pub slice_bounds-put_operation-count : goal.slice_bounds-put_operation-count
 slice_bounds-put_operation-count c =
     let among : c.loop-i.i < length (in_order_of c.args.is_reverse c.args.cigar.now) = (let a = c.args in
     rw (length_in_order a.is_reverse a.cigar.now) c.loop-i-test.true) in
-    let room : c.loop-i.at + bases_taken c.word_at-word.result ≤ length c.loop-i.positions-1 = come_room c.loop-i.invariant c.word_at-word.result (among) c.word_at-word.ensures in
+    let room : c.loop-i.at + bases_taken c.word_at-word.result ≤ length c.loop-i.positions = come_room c.loop-i.invariant c.word_at-word.result (among) c.word_at-word.ensures in
     omega (arith, room)
 
 pub slice_bounds-put_operation-start : goal.slice_bounds-put_operation-start
 slice_bounds-put_operation-start c =
     let among : c.loop-i.i < length (in_order_of c.args.is_reverse c.args.cigar.now) = (let a = c.args in
     rw (length_in_order a.is_reverse a.cigar.now) c.loop-i-test.true) in
-    let room : c.loop-i.at + bases_taken c.word_at-word.result ≤ length c.loop-i.positions-1 = come_room c.loop-i.invariant c.word_at-word.result (among) c.word_at-word.ensures in
+    let room : c.loop-i.at + bases_taken c.word_at-word.result ≤ length c.loop-i.positions = come_room c.loop-i.invariant c.word_at-word.result (among) c.word_at-word.ensures in
     omega (arith, room)
 
 pub put_operation-requires : goal.put_operation-requires
 put_operation-requires c =
     let among : c.loop-i.i < length (in_order_of c.args.is_reverse c.args.cigar.now) = (let a = c.args in
     rw (length_in_order a.is_reverse a.cigar.now) c.loop-i-test.true) in
-    let room : c.loop-i.at + bases_taken c.word_at-word.result ≤ length c.loop-i.positions-1 = come_room c.loop-i.invariant c.word_at-word.result (among) c.word_at-word.ensures in
+    let room : c.loop-i.at + bases_taken c.word_at-word.result ≤ length c.loop-i.positions = come_room c.loop-i.invariant c.word_at-word.result (among) c.word_at-word.ensures in
     let reach : Reaches c.args.is_reverse c.loop-i.place (places_taken c.word_at-word.result) = come_reach c.loop-i.invariant c.word_at-word.result (among) c.word_at-word.ensures in
     (simp (length-take, length-drop) (omega (arith, room)), reach)
 
@@ -54,7 +54,7 @@ pub overflow_add-at : goal.overflow_add-at
 overflow_add-at c =
     let among : c.loop-i.i < length (in_order_of c.args.is_reverse c.args.cigar.now) = (let a = c.args in
     rw (length_in_order a.is_reverse a.cigar.now) c.loop-i-test.true) in
-    let room : c.loop-i.at + bases_taken c.word_at-word.result ≤ length c.loop-i.positions-1 = come_room c.loop-i.invariant c.word_at-word.result (among) c.word_at-word.ensures in
+    let room : c.loop-i.at + bases_taken c.word_at-word.result ≤ length c.loop-i.positions = come_room c.loop-i.invariant c.word_at-word.result (among) c.word_at-word.ensures in
     omega (arith, room)
 
 pub loop-i-preserved : goal.loop-i-preserved
@@ -62,7 +62,7 @@ loop-i-preserved c =
     let among : c.loop-i.i < length (in_order_of c.args.is_reverse c.args.cigar.now) = (let a = c.args in
     rw (length_in_order a.is_reverse a.cigar.now) c.loop-i-test.true) in
     let a = c.args in
-    come_on c.loop-i.invariant c.word_at-word.result (among) c.word_at-word.ensures (length c.loop-i.positions-1 - c.loop-i.at) c.bases_taken.result
+    come_on c.loop-i.invariant c.word_at.result (among) c.word_at.ensures (length c.loop-i.positions - c.loop-i.at) c.bases_taken.result
     c.moved-place.result c.put_operation.new.1.1.1.0 refl c.bases_taken.ensures
     (c.moved-place.ensures ∙ ap (λ (n : ℕ). moved a.is_reverse c.loop-i.place n) c.places_taken.ensures)
     c.put_operation.ensures

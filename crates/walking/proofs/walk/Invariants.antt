@@ -7,7 +7,7 @@ use Rattle.walking.proofs.Walks.{Come}
 use Rattle.walking.proofs.walk.Given as goal
 
 abbrev pub invariant-loop-i : goal.invariant-loop-i
-invariant-loop-i l = Come l.is_reverse l.outset (in_order_of l.is_reverse l.cigar) l.initial.positions l.positions-1 l.place l.at l.i
+invariant-loop-i l = Come l.is_reverse l.outset (in_order_of l.is_reverse l.cigar) l.initial.positions l.positions l.place l.at l.i
 
 abbrev pub decreases-loop-i : goal.decreases-loop-i
 decreases-loop-i l = length l.cigar - l.i
