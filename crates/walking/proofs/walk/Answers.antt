@@ -62,8 +62,8 @@ loop-i-preserved c =
     let among : c.loop-i.i < length (in_order_of c.args.is_reverse c.args.cigar.now) = (let a = c.args in
     rw (length_in_order a.is_reverse a.cigar.now) c.loop-i-test.true) in
     let a = c.args in
-    come_on c.loop-i.invariant c.word_at.result (among) c.word_at.ensures (length c.loop-i.positions - c.loop-i.at) c.bases_taken.result
-    c.moved-place.result c.put_operation.new.1.1.1.0 refl c.bases_taken.ensures
+    come_on c.loop-i.invariant c.word_at-word.result (among) c.word_at-word.ensures (length c.loop-i.positions - c.loop-i.at) c.bases_taken.result
+    c.moved-place.result c.put_operation.new.out refl c.bases_taken.ensures
     (c.moved-place.ensures ∙ ap (λ (n : ℕ). moved a.is_reverse c.loop-i.place n) c.places_taken.ensures)
     c.put_operation.ensures
 
