@@ -44,7 +44,7 @@ loop-i-preserved c =
     let sum : odd + 2 * h.i + 2 ≡ odd + 2 * (h.i + 1) = omega arith in (
       omega arith,
       h.invariant.1,
-      p.auto.1.1.1.0 ∙ h.invariant.2,
+      p.auto.row ∙ h.invariant.2,
       λ (out : List ℕ) long e.
           p.ensures turned_first turned_second c.turned_first_table-first.ensures c.turned_second_table-second.ensures
           ∙ two_more (turned_at a.n packed) out h.row (odd + 2 * h.i) _ _ (h.invariant.3 out long e)
@@ -59,6 +59,6 @@ returns c =
     let a = c.args in
     let packed = a.packed.now in
     let all : f.result + 2 * h.i ≡ a.n = omega (arith, h.invariant.1) in
-    h.invariant.3 a.row.now f.auto.1.1.1.0 (f.ensures.1 ∙ ap (λ (k : ℕ). over (tabulate k (turned_at a.n packed)) a.row.now) (sym f.ensures.0))
+    h.invariant.3 a.row.now f.auto.row (f.ensures.1 ∙ ap (λ (k : ℕ). over (tabulate k (turned_at a.n packed)) a.row.now) (sym f.ensures.0))
     ∙ ap (λ (k : ℕ). over (tabulate k (turned_at a.n packed)) a.row.now) all
     ∙ ap (λ (l : List ℕ). over l a.row.now) (sym (unpack_turned a.n packed))

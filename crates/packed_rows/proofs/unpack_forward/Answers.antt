@@ -27,7 +27,7 @@ loop-i-preserved c =
       p.ensures first_letter second_letter c.first_table-first.ensures c.second_table-second.ensures
           ∙ two_more (letter_at packed) a.row.now h.row (2 * h.i) _ _ h.invariant.1 (omega arith) high low
           ∙ ap (λ (k : ℕ). over (tabulate k (letter_at packed)) a.row.now) sum,
-      p.auto.1.1.1.0 ∙ h.invariant.2,
+      p.auto.row ∙ h.invariant.2,
     )
 
 pub returns-then-n-eq1 : goal.returns-then-n-eq1
