@@ -2,6 +2,8 @@
 //
 // The names are those of the Rust code. Counting, gating and the other work on columns are in the crate `annotation`. No function here has a
 // `requires`. Each public call's contract is one proposition of specs/Contracts.
+#![tactic(auto)]
+
 ghost use Rattle.std.specs.Prelude.{◌≡◌, ◌+◌};
 ghost use Rattle.lent.specs.Outcome.{says};
 ghost use Rattle.evidence.specs.PublicContracts.{StartsEvidence, CountsBase, GatesPosition, GatesRow};

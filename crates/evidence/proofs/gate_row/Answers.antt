@@ -7,9 +7,11 @@ use Prim.Native.Nat.{ℕ, ◌+◌, ◌≤◌, ◌<◌}
 use native.Mathlib.Numerals.{add-one}
 use native.Mathlib.Omega.{arith}
 use lib.ListN.{length, get_or, set}
-use Rattle.lent.specs.Filled.{leaves}
+use Rattle.lent.specs.Outcome.{says}
+use Rattle.lent.specs.declared.Written.{Written}
+use Rattle.evidence.specs.PublicContracts.{GatesRow}
 use Rattle.evidence.specs.Position.{fresh, gated}
-use Rattle.evidence.specs.Row.{gated_row, row_of, records_to_gate}
+use Rattle.evidence.specs.Row.{row_of, records_to_gate}
 use Rattle.evidence.specs.declared.MethylationEvidence.{MethylationEvidence}
 use Rattle.evidence.proofs.Rows.{gated_up_to, gated_more, gates_within, row_is_left}
 use Rattle.evidence.proofs.gate_row.Goals as goal
@@ -21,11 +23,11 @@ next row row' i e h is gives =
     rw (gives, is, add-one) (gated_more i row (fresh false) h)
 
 -- all records to gate are gated
-at_end : (row row' : List MethylationEvidence) (i n : ℕ) → n ≡ records_to_gate (length row) → i ≤ n → n ≤ i → row' ≡ gated_up_to i row
-    → row' ≡ leaves (λ (n : ℕ). gated_row row) (row_of (length row)) row
-at_end row row' i n bound h k is =
+at_end : (row row' : List MethylationEvidence) (i n : ℕ) (r : Written) → says r ≡ row_of (length row') → length row' ≡ length row
+    → n ≡ records_to_gate (length row) → i ≤ n → n ≤ i → row' ≡ gated_up_to i row → GatesRow row r row'
+at_end row row' i n r answered long bound h k is =
     let e : i ≡ records_to_gate (length row) = omega arith in
-    is ∙ ap (λ (m : ℕ). gated_up_to m row) e ∙ row_is_left row
+    (answered ∙ ap row_of long, is ∙ ap (λ (m : ℕ). gated_up_to m row) e ∙ row_is_left row)
 
 pub loop-i-preserved : goal.loop-i-preserved
 loop-i-preserved c = record {
@@ -36,7 +38,4 @@ loop-i-preserved c = record {
 }
 
 pub returns : goal.returns
-returns c =
-    (c.answer_for_row.ensures ∙ ap row_of c.loop-i.auto.row,
-    at_end c.args.row.now c.loop-i.row c.loop-i.i c.records_to_gate-n.result c.records_to_gate-n.ensures c.loop-i.invariant.within (omega arith)
-    c.loop-i.invariant.gated_so_far)
+returns c = let k = c.loop-i in at_end _ _ _ _ _ c.answer_for_row.ensures k.auto.row c.records_to_gate-n.ensures k.invariant.within (omega arith) k.invariant.gated_so_far
