@@ -1,13 +1,14 @@
 // `evidence_run` runs `evidence::gate_row`, which C can't call. It gates the first n of 16,001 records, for several n. For each n it prints one line:
 // the answer's number, how many records are done, and the first and the last of the n records after the call.
 //
-// `gate_row` takes a lent row of structs, which the borrow checker does not cover. So the function that lends the row is as small as possible and is
-// proved by hand. All other functions pass the array by value.
+// `gate_row` takes a lent row of structs. One function lends it, and all others pass the array by value.
+#![tactic(auto)]
+
 ghost use Rattle.std.specs.Prelude.{◌≤◌};
 
 use evidence::{MethylationEvidence, gate_row};
 use lent::Written;
-use libc::STDOUT_FILENO;
+use std::io;
 
 // No count is 0, so the counts show whether a record was gated.
 fn record_at(i: usize) -> MethylationEvidence {
@@ -49,28 +50,27 @@ fn gated(row: [MethylationEvidence; 16001], n: usize) -> Left
     }
 }
 
-fn print(number: u64, after: &[u8]) {
-    io::print_decimal(STDOUT_FILENO, number);
-    io::write_all(STDOUT_FILENO, after);
+fn print(rt: &impl Print, number: u64, after: &str) -> io::Result<()> {
+    print!(rt; "{number}{after}")
 }
 
-fn print_answer(r: Written) {
+fn print_answer(rt: &impl Print, r: Written) -> io::Result<()> {
     match r {
         Written::Done(n) => {
-            print(0, b"\t");
-            print(n as u64, b"\t");
+            print(rt, 0, "\t")?;
+            print(rt, n as u64, "\t")
         }
         Written::Refused(refusal) => {
-            print(refusal.0 as u64, b"\t");
-            print(0, b"\t");
+            print(rt, refusal.0 as u64, "\t")?;
+            print(rt, 0, "\t")
         }
     }
 }
 
-fn print_record(e: MethylationEvidence, after: &[u8]) {
-    print(e.informative as u64, b",");
-    print(e.unconverted as u64, b",");
-    print(e.converted as u64, after);
+fn print_record(rt: &impl Print, e: MethylationEvidence, after: &str) -> io::Result<()> {
+    print(rt, e.informative as u64, ",")?;
+    print(rt, e.unconverted as u64, ",")?;
+    print(rt, e.converted as u64, after)
 }
 
 // The index of the last of n records. For n = 0 it is 0; that record must stay unchanged.
@@ -81,22 +81,22 @@ fn last_of(n: usize) -> usize
     if n == 0 { 0 } else { n - 1 }
 }
 
-fn run(row: [MethylationEvidence; 16001], n: usize)
+fn run(rt: &impl Print, row: [MethylationEvidence; 16001], n: usize) -> io::Result<()>
     requires { n ≤ 16001 }
 {
     let left = gated(row, n);
-    print_answer(left.answer);
+    print_answer(rt, left.answer)?;
     let first = left.row[0];
-    print_record(first, b"\t");
+    print_record(rt, first, "\t")?;
     let at = last_of(n);
     let last = left.row[at];
-    print_record(last, b"\n");
+    print_record(rt, last, "\n")
 }
 
-fn main() {
+fn main(rt: HostRuntime) -> io::Result<()> {
     let row = all_records();
-    run(row, 0);
-    run(row, 3);
-    run(row, 16000);
-    run(row, 16001);
+    run(&rt, row, 0)?;
+    run(&rt, row, 3)?;
+    run(&rt, row, 16000)?;
+    run(&rt, row, 16001)
 }
