@@ -26,13 +26,13 @@ loop-place-preserved c =
     let low : h.place < length a.seq.now = omega arith in
     let here = spots_at a.mode a.pattern ev a.seq.now h.place in
     let short = entries_short h.pen.skip here in
-    let text = text_turn a.mode a.pattern ev a.seq.now h.place low h.text pass.new.1.1.1.1.1.1.1.1.0 h.pen.text pass.result.text
+    let text = text_turn a.mode a.pattern ev a.seq.now h.place low h.text pass.new.text h.pen.text pass.result.text
     h.pen.skip pass.result.skip pass.ensures.0 pass.ensures.1 pass.ensures.3 in
-    let values = values_turn a.mode a.pattern ev a.seq.now h.place low h.ml pass.new.1.1.1.1.1.1.1.1.1.0 h.pen.values pass.result.values
+    let values = values_turn a.mode a.pattern ev a.seq.now h.place low h.ml pass.new.ml h.pen.values pass.result.values
     pass.ensures.2 pass.ensures.4 in (
       omega arith,
-      pass.auto.1.1.1.1.1.1.1.1.0 ∙ h.invariant.1,
-      pass.auto.1.1.1.1.1.1.1.1.1.0 ∙ h.invariant.2,
+      pass.auto.text ∙ h.invariant.1,
+      pass.auto.ml ∙ h.invariant.2,
       omega (arith, h.invariant.3, pass.ensures.0, pass.ensures.1, short, one_spot a.mode a.pattern ev a.seq.now h.place),
       omega (arith, h.invariant.4, pass.ensures.2, one_value a.mode a.pattern ev a.seq.now h.place),
       h.invariant.5 ∙ text.0,

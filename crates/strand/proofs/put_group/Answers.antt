@@ -44,7 +44,7 @@ returns c =
     let put = c.put_entries-end in
     let row = a.text.now in
     let end : put.result.text ≡ 4 + length entries = put.ensures.0 in
-    let stored : put.new.1.1.1.1.1.1.1.0 ≡ sets (sets row 0 (header_of a.pattern)) 4 entries =
+    let stored : put.new.text ≡ sets (sets row 0 (header_of a.pattern)) 4 entries =
     put.ensures.2 ∙ ap (λ (l : List ℕ). sets l 4 entries) c.put_header.ensures in
     let text = strand_text a.mode a.pattern ev a.seq.now in
     let ml = strand_ml a.mode a.pattern ev a.seq.now in

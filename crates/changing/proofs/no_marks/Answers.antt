@@ -4,11 +4,7 @@ use mathlib.Core.Path.{sym}
 use Prim.Native.Nat.{ℕ}
 use lib.ListN.{length-replicate}
 use Rattle.changing.proofs.WindowLaws.{unmarked_row}
-use Rattle.changing.proofs.no_marks.Statement.{statement}
-use Rattle.changing.proofs.no_marks.Tie as tie
+use Rattle.changing.proofs.no_marks.Goals as goal
 
-returns : tie.Need-returns
+pub returns : goal.returns
 returns c = (sym (length-replicate {A = ℕ} 16000 0), unmarked_row 16000)
-
-pub no-marks-spec : {M : Type 1} → statement M
-no-marks-spec = tie.close (tie.spec returns)

@@ -1,0 +1,44 @@
+use mathlib.Core.Path.{refl, ◌∙◌}
+use Prim.Native.Nat.{◌-◌}
+use native.Mathlib.Omega.{arith}
+use lib.ListN.{get_or}
+use Rattle.pattern.specs.Patterns.{bases_of}
+use Rattle.counting.specs.Reads.{Read}
+use Rattle.counting.specs.Counting.{count_after}
+use Rattle.lent.proofs.Tabulate.{changed_turn}
+use Rattle.counting.proofs.Counted.{there_unconverted, there_converted, read_added}
+use Rattle.counting.proofs.count_read.Goals as goal
+
+pub loop-i-init : goal.loop-i-init
+loop-i-init c = (omega arith, refl, refl, refl, refl)
+
+pub loop-i-preserved : goal.loop-i-preserved
+loop-i-preserved c =
+    let a = c.args in
+    let p = a.pattern in
+    let all? = a.count_all_positions in
+    let inf = a.informative.now in
+    let unc = c.loop-i.unconverted in
+    let con = c.loop-i.converted in
+    let i = c.loop-i.i in
+    let r : Read = record { bases = a.bases.now; aligned = a.aligned.now } in (
+      omega arith,
+      omega (arith, c.count_base.auto.unconverted),
+      omega (arith, c.count_base.auto.converted),
+      rw c.count_base.ensures.0
+          (changed_turn (count_after (bases_of p).unconverted all? inf r) 0 a.unconverted.now unc i _ c.loop-i.invariant.3 (omega arith)
+          (there_unconverted all? p inf r i (get_or unc i 0) (get_or con i 0) (omega arith))),
+      rw c.count_base.ensures.1
+          (changed_turn (count_after (bases_of p).converted all? inf r) 0 a.converted.now con i _ c.loop-i.invariant.4 (omega arith)
+          (there_converted all? p inf r i (get_or unc i 0) (get_or con i 0) (omega arith))),
+    )
+
+pub returns : goal.returns
+returns c =
+    let a = c.args in
+    let all? = a.count_all_positions in
+    let inf = a.informative.now in
+    let r : Read = record { bases = a.bases.now; aligned = a.aligned.now } in (
+      c.loop-i.invariant.3 ∙ read_added (bases_of a.pattern).unconverted all? inf r c.loop-i.i a.unconverted.now (omega arith),
+      c.loop-i.invariant.4 ∙ read_added (bases_of a.pattern).converted all? inf r c.loop-i.i a.converted.now (omega arith),
+    )

@@ -1,0 +1,122 @@
+use mathlib.Core.Path.{◌∙◌, ◌≡◌, ap, refl, sym}
+use Prim.Native.Nat.{◌+◌, ◌-◌, ◌<◌, ◌≤◌, ℕ}
+use native.Mathlib.Omega.{arith}
+use mathlib.Core.List.{[], List}
+use lib.ListN.{drop, length}
+use Rattle.lent.proofs.Outcome.{on_done_refused}
+use Rattle.lent.specs.Outcome.{on_done, refused}
+use Rattle.samtags.specs.Reading.{nowhere}
+use Rattle.places.proofs.TextLaws.{ends_semicolon, rest_semicolon, turn_end, turn_field, turn_rest}
+use Rattle.numbers.specs.Answers.{skip_refusal, skip_says}
+use Rattle.measuring.proofs.CountLaws.{count_last, turn_eight, turn_passed, turn_seven, turn_six}
+use Rattle.measuring.specs.Counting.{spots_counted}
+use Rattle.measuring.proofs.count_entries.Goals as goal
+use Rattle.measuring.proofs.count_entries.Goals.{Else-ml-used}
+
+-- what the turn's sums stay below
+bounds : (k : Else-ml-used) →
+    let a = k.args in
+    let h = k.loop-at in
+    (h.used + a.values ≤ length a.ml.now) × (length a.ml.now ≤ 65536) × (h.calls ≤ h.at) × (a.start.at ≤ h.at)
+    × (h.at + 1 + length k.next_field-field.result.now < length a.text.now) × (length a.text.now ≤ 65536)
+bounds k =
+    let a = k.args in
+    let h = k.loop-at in
+    let f = k.next_field-field in
+    let low : h.at < length a.text.now = omega arith in
+    let rest = turn_rest a.values nowhere a.text.now h.at low k.loop-at-test.true f.result.now f.ensures [] a.ml.now h.used in
+    omega (arith, rest)
+
+pub loop-at-init : goal.loop-at-init
+loop-at-init c = (refl, omega arith, omega arith, omega arith, omega arith, omega arith, λ places e. (places, e, refl))
+
+pub returns-in_default : goal.returns-in_default
+returns-in_default c =
+    let a = c.args in
+    let h = c.loop-at in
+    let f = c.next_field-field in
+    let low : h.at < length a.text.now = omega arith in
+    λ (places : List ℕ) (e : a.all ≡ length places).
+    let x = h.invariant.6 places e in
+    on_done_refused _ _ _ (x.2
+    ∙ turn_six a.values a.text.now h.at low c.loop-at-test.true f.result.now f.ensures a.ml.now h.used h.calls x.0 _ c.in_default.field-0
+    (sym (ap skip_says c.in_default.is) ∙ c.read_skip-read.ensures)
+    ∙ ap refused (sym (c.refusal.ensures ∙ ap skip_refusal c.in_default.is)))
+
+pub returns-then-left-skip : goal.returns-then-left-skip
+returns-then-left-skip c =
+    let a = c.args in
+    let h = c.loop-at in
+    let f = c.next_field-field in
+    let low : h.at < length a.text.now = omega arith in
+    λ (places : List ℕ) (e : a.all ≡ length places).
+    let x = h.invariant.6 places e in
+    on_done_refused _ _ _ (x.2
+    ∙ turn_seven a.values a.text.now h.at low c.loop-at-test.true f.result.now f.ensures a.ml.now h.used h.calls x.0 c.in-Of.skip
+    (sym (ap skip_says c.in-Of.is) ∙ c.read_skip-read.ensures) (omega (arith, x.1)))
+
+pub returns-then-ml-used : goal.returns-then-ml-used
+returns-then-ml-used c =
+    let a = c.args in
+    let h = c.loop-at in
+    let f = c.next_field-field in
+    let low : h.at < length a.text.now = omega arith in
+    λ (places : List ℕ) (e : a.all ≡ length places).
+    let x = h.invariant.6 places e in
+    on_done_refused _ _ _ (x.2
+    ∙ turn_eight a.values a.text.now h.at low c.loop-at-test.true f.result.now f.ensures a.ml.now h.used h.calls x.0 c.in-Of.skip
+    (sym (ap skip_says c.in-Of.is) ∙ c.read_skip-read.ensures) (omega (arith, x.1)) (omega (arith, x.1)) (omega arith))
+
+pub overflow_add-used : goal.overflow_add-used
+overflow_add-used c = omega (arith, bounds c)
+
+pub overflow_add-calls : goal.overflow_add-calls
+overflow_add-calls c = omega (arith, bounds c)
+
+pub overflow_add-at-in-loop-at : goal.overflow_add-at-in-loop-at
+overflow_add-at-in-loop-at c = omega (arith, bounds c)
+
+pub overflow_add-at-in-loop-at-2 : goal.overflow_add-at-in-loop-at-2
+overflow_add-at-in-loop-at-2 c = omega (arith, bounds c)
+
+pub loop-at-smaller : goal.loop-at-smaller
+loop-at-smaller c = omega (arith, bounds c)
+
+pub loop-at-preserved : goal.loop-at-preserved
+loop-at-preserved c =
+    let a = c.args in
+    let h = c.loop-at in
+    let f = c.next_field-field in
+    let t = a.text.now in
+    let b = bounds c in
+    let low : h.at < length t = omega (arith, b) in
+    let comma = c.loop-at-test.true in (
+      omega (arith, h.invariant.0, turn_rest a.values nowhere t h.at low comma f.result.now f.ensures [] a.ml.now h.used),
+      turn_field a.values nowhere t h.at low comma f.result.now f.ensures [] a.ml.now h.used,
+      b.0,
+      omega (arith, b),
+      omega (arith, b),
+      omega arith,
+      λ (places : List ℕ) (e : a.all ≡ length places).
+          let x = h.invariant.6 places e in
+          let y = turn_passed a.values t h.at low comma f.result.now f.ensures a.ml.now h.used h.calls x.0 c.in-Of.skip
+          (sym (ap skip_says c.in-Of.is) ∙ c.read_skip-read.ensures) (omega (arith, x.1)) (omega (arith, x.1)) (omega arith) in
+          (y.0, omega (arith, x.1, y.1), x.2 ∙ y.2),
+    )
+
+pub returns : goal.returns
+returns c =
+    let a = c.args in
+    let h = c.loop-at in
+    let t = a.text.now in
+    let low : h.at < length t = omega arith in
+    let semi = ends_semicolon t h.at low h.invariant.1 c.loop-at-test.false in
+    λ (places : List ℕ) (e : a.all ≡ length places).
+    let x = h.invariant.6 places e in (
+      omega (arith, h.invariant.0, rest_semicolon t h.at low semi),
+      h.invariant.2,
+      refl,
+      h.invariant.3,
+      x.2 ∙ ap (on_done (spots_counted h.calls)) (turn_end a.values nowhere t h.at low semi x.0 (drop h.used a.ml.now))
+          ∙ count_last h.calls x.0 (drop h.used a.ml.now),
+    )

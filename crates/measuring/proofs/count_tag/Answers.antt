@@ -1,0 +1,44 @@
+-- `count_tag` checks for 3 and 4, and then counts the groups.
+-- Assumes nothing.
+use mathlib.Core.Path.{◌∙◌, ◌≡◌, subst, sym}
+use Prim.Native.Nat.{ℕ}
+use native.Mathlib.Omega.{arith}
+use mathlib.Core.Bool.{Bool, false}
+use mathlib.Core.List.{List}
+use borrow.Author.Tests.{eqb-true}
+use Rattle.lent.specs.Outcome.{Outcome}
+use Rattle.samtags.specs.Reading.{nowhere}
+use Rattle.samtags.specs.Spots.{Group}
+use Rattle.measuring.proofs.CountLaws.{read_four, read_on, read_three}
+use Rattle.measuring.specs.Counting.{TagCounted}
+use Rattle.measuring.proofs.count_tag.Goals as goal
+
+pub returns-then-not-ascii : goal.returns-then-not-ascii
+returns-then-not-ascii c =
+    let a = c.args in
+    λ (named : ℕ → Bool) (none : a.marked ≡ false → named ≡ nowhere).
+    read_three a.has_ml named a.seq.now a.text.now a.ml.now (sym c.all_IsAscii.ensures ∙ c.if-not-ascii.true)
+
+pub returns-then-not-closed : goal.returns-then-not-closed
+returns-then-not-closed c =
+    let a = c.args in
+    λ (named : ℕ → Bool) (none : a.marked ≡ false → named ≡ nowhere).
+    read_four a.has_ml named a.seq.now a.text.now a.ml.now (sym c.all_IsAscii.ensures ∙ c.if-not-ascii.false)
+    (sym c.ends_in_semicolon-closed.ensures ∙ c.if-not-closed.true)
+
+pub count_groups-requires : goal.count_groups-requires
+count_groups-requires c = (
+  omega arith,
+  omega arith,
+  omega arith,
+  eqb-true _ 59 (sym c.ends_in_semicolon-closed.ensures ∙ c.if-not-closed.false),
+)
+
+pub returns : goal.returns
+returns c =
+    let a = c.args in
+    λ (named : ℕ → Bool) (none : a.marked ≡ false → named ≡ nowhere).
+    subst (λ (o : Outcome (List Group)). TagCounted a.marked o c.count_groups.result)
+    (sym (read_on a.has_ml named a.seq.now a.text.now a.ml.now (sym c.all_IsAscii.ensures ∙ c.if-not-ascii.false)
+    (sym c.ends_in_semicolon-closed.ensures ∙ c.if-not-closed.false) c.requires.3))
+    (c.count_groups.ensures named none)
