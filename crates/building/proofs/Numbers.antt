@@ -15,7 +15,7 @@ use Rattle.pattern.specs.declared.ConversionPattern.{ConversionPattern}
 use Rattle.pattern.specs.declared.ConversionPattern.TheVariants.{CToT}
 use Rattle.pattern.specs.declared.MethylationMode.{MethylationMode}
 use Rattle.pattern.specs.declared.MethylationMode.TheVariants.{EmSeq}
-use Rattle.samtags.proofs.Numbers.{build_tag_only}
+use Rattle.samtags.proofs.Numbers.{build_numbers, build_tag_only}
 use Rattle.samtags.specs.Building.{Evidence, build_tag, columns}
 use Rattle.samtags.specs.Bytes.{ascii}
 use Rattle.samtags.specs.Writing.{Tag, sizes_of}
@@ -25,13 +25,13 @@ module _ (mode : MethylationMode) (p : ConversionPattern) (ev : Evidence) (seq m
       → Answers (1 ∷ 2 ∷ 12 ∷ 20 ∷ []) (tag_says r)
   build_mm_ml_tags_numbers ml r mm' ml' b =
       let o = build_tag true mode p ev seq (length mm) (length ml) in
-      rw b.0 (answers _ (on_done sizes_of o) refl (only_on_done _ sizes_of o (build_tag_only true mode p ev seq (length mm) (length ml))))
+      rw b.0 (answers _ (on_done sizes_of o) refl (only_on_done build_numbers sizes_of o (build_tag_only true mode p ev seq (length mm) (length ml))))
 
   pub build_mm_tag_no_ml_numbers : (r : Written) (mm' : List ℕ) → BuiltAlone mode p ev seq mm r mm' → Answers (1 ∷ 2 ∷ 12 ∷ 20 ∷ []) (says r)
   build_mm_tag_no_ml_numbers r mm' b =
       let o = build_tag false mode p ev seq (length mm) 0 in
       let size : Tag → ℕ = λ t. length t.text in
-      rw b.0 (answers _ (on_done size o) refl (only_on_done _ size o (build_tag_only false mode p ev seq (length mm) 0)))
+      rw b.0 (answers _ (on_done size o) refl (only_on_done build_numbers size o (build_tag_only false mode p ev seq (length mm) 0)))
 
 -- ---- no set is too large: worked inputs, whose numbers are 0 and then each of the set in order
 

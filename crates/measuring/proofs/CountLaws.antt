@@ -27,6 +27,7 @@ use Rattle.places.proofs.TextLaws.{calls_none, entry_refused, group_on, groups_a
 use Rattle.places.proofs.WalkLaws.{entry_six}
 use Rattle.fields.specs.Fields.{field_of}
 use Rattle.measuring.specs.contracts.Counted.{the_type}
+use Rattle.measuring.specs.declared.Count.{Count}
 use Rattle.measuring.specs.declared.Counted.{Counted}
 use Rattle.measuring.specs.declared.Counted.TheVariants.{To, Refused, Unsure}
 use denote.Enum.Declared.{tag_of}
@@ -35,11 +36,11 @@ use Rattle.measuring.specs.Counting.{calls_of, group_counted, groups_counted, sp
 
 -- an answer that is not `To`, as the code knows it
 abbrev pub NotTo : Counted → Type 0
-NotTo r = OneOf (1 ∷ 2 ∷ []) (tag_of the_type r)
+NotTo r = (d : Count) → r ≡ To d → ⊥
 
 pub unless_to : (P : Counted → Type 0) (r : Counted) → NotTo r
     → ((q : Refusal) → r ≡ Refused q → P (Refused q)) → (r ≡ Unsure → P Unsure) → P r
-unless_to P (To d) k f g = ⊎_elim (λ (z : 0 ≡ 1). absurd (omega arith)) (λ (z : 0 ≡ 2). absurd (omega arith)) k
+unless_to P (To d) k f g = absurd (k d refl)
 unless_to P (Refused q) k f g = f q refl
 unless_to P Unsure k f g = g refl
 

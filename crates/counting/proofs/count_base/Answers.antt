@@ -3,20 +3,17 @@
 use mathlib.Core.Path.{◌≡◌, refl, sym, ◌∙◌}
 use mathlib.Core.Bool.{true, false}
 use lib.Seq.{set-get_or}
-use borrow.Author.Tests.{not-false}
 use Rattle.counting.specs.Counting.{counts_there}
 use Rattle.counting.proofs.count_base.Goals as goal
 
 pub returns-then-not-counts : goal.returns-then-not-counts
 returns-then-not-counts c =
-    let a = c.args in
-    let off : counts_there a.count_all_positions a.informative a.aligned ≡ false =
+    let off : counts_there c.args.count_all_positions c.args.informative c.args.aligned ≡ false =
     sym c.counts_there-counts.ensures ∙ c.if-not-counts.true in
-    rw off (sym (set-get_or a.unconverted.now a.i 0), sym (set-get_or a.converted.now a.i 0))
+    rw off (sym (set-get_or c.args.unconverted.now c.args.i 0), sym (set-get_or c.args.converted.now c.args.i 0))
 
 pub returns : goal.returns
 returns c =
-    let a = c.args in
-    let counts : counts_there a.count_all_positions a.informative a.aligned ≡ true =
-    sym c.counts_there-counts.ensures ∙ not-false c.counts_there-counts.result c.if-not-counts.false in
+    let counts : counts_there c.args.count_all_positions c.args.informative c.args.aligned ≡ true =
+    sym c.counts_there-counts.ensures ∙ c.if-not-counts.false in
     rw (counts, c.counted-after.ensures) (refl, refl)

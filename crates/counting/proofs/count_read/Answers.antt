@@ -14,31 +14,29 @@ loop-i-init c = (omega arith, refl, refl, refl, refl)
 
 pub loop-i-preserved : goal.loop-i-preserved
 loop-i-preserved c =
-    let a = c.args in
-    let p = a.pattern in
-    let all? = a.count_all_positions in
-    let inf = a.informative.now in
+    let p = c.args.pattern in
+    let all? = c.args.count_all_positions in
+    let inf = c.args.informative.now in
     let unc = c.loop-i.unconverted in
     let con = c.loop-i.converted in
     let i = c.loop-i.i in
-    let r : Read = record { bases = a.bases.now; aligned = a.aligned.now } in (
+    let r : Read = record { bases = c.args.bases.now; aligned = c.args.aligned.now } in (
       omega arith,
       omega (arith, c.count_base.auto.unconverted),
       omega (arith, c.count_base.auto.converted),
       rw c.count_base.ensures.0
-          (changed_turn (count_after (bases_of p).unconverted all? inf r) 0 a.unconverted.now unc i _ c.loop-i.invariant.3 (omega arith)
+          (changed_turn (count_after (bases_of p).unconverted all? inf r) 0 c.args.unconverted.now unc i _ c.loop-i.invariant.3 (omega arith)
           (there_unconverted all? p inf r i (get_or unc i 0) (get_or con i 0) (omega arith))),
       rw c.count_base.ensures.1
-          (changed_turn (count_after (bases_of p).converted all? inf r) 0 a.converted.now con i _ c.loop-i.invariant.4 (omega arith)
+          (changed_turn (count_after (bases_of p).converted all? inf r) 0 c.args.converted.now con i _ c.loop-i.invariant.4 (omega arith)
           (there_converted all? p inf r i (get_or unc i 0) (get_or con i 0) (omega arith))),
     )
 
 pub returns : goal.returns
 returns c =
-    let a = c.args in
-    let all? = a.count_all_positions in
-    let inf = a.informative.now in
-    let r : Read = record { bases = a.bases.now; aligned = a.aligned.now } in (
-      c.loop-i.invariant.3 ∙ read_added (bases_of a.pattern).unconverted all? inf r c.loop-i.i a.unconverted.now (omega arith),
-      c.loop-i.invariant.4 ∙ read_added (bases_of a.pattern).converted all? inf r c.loop-i.i a.converted.now (omega arith),
+    let all? = c.args.count_all_positions in
+    let inf = c.args.informative.now in
+    let r : Read = record { bases = c.args.bases.now; aligned = c.args.aligned.now } in (
+      c.loop-i.invariant.3 ∙ read_added (bases_of c.args.pattern).unconverted all? inf r c.loop-i.i c.args.unconverted.now (omega arith),
+      c.loop-i.invariant.4 ∙ read_added (bases_of c.args.pattern).converted all? inf r c.loop-i.i c.args.converted.now (omega arith),
     )

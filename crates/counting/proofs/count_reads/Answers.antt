@@ -36,12 +36,11 @@ count_read-requires c = simp (length-take, length-drop) (omega arith)
 
 pub loop-k-preserved : goal.loop-k-preserved
 loop-k-preserved c =
-    let a = c.args in
-    let all? = a.count_all_positions in
-    let inf = a.informative.now in
-    let ls = a.read_lengths.now in
-    let bs = a.read_bases.now in
-    let marks = a.read_aligned.now in
+    let all? = c.args.count_all_positions in
+    let inf = c.args.informative.now in
+    let ls = c.args.read_lengths.now in
+    let bs = c.args.read_bases.now in
+    let marks = c.args.read_aligned.now in
     let k = c.loop-k.k in
     let from = c.loop-k.from in
     let to = from + get_or ls k 0 in (
@@ -49,24 +48,23 @@ loop-k-preserved c =
       omega (arith, sum_turn ls k (omega arith)),
       omega (arith, c.count_read.auto.unconverted),
       omega (arith, c.count_read.auto.converted),
-      rest_turn (bases_of a.pattern).unconverted all? inf ls bs marks k from to c.loop-k.unconverted _ (omega arith) refl
+      rest_turn (bases_of c.args.pattern).unconverted all? inf ls bs marks k from to c.loop-k.unconverted _ (omega arith) refl
           c.count_read.ensures.0
           ∙ c.loop-k.invariant.4,
-      rest_turn (bases_of a.pattern).converted all? inf ls bs marks k from to c.loop-k.converted _ (omega arith) refl
+      rest_turn (bases_of c.args.pattern).converted all? inf ls bs marks k from to c.loop-k.converted _ (omega arith) refl
           c.count_read.ensures.1
           ∙ c.loop-k.invariant.5,
     )
 
 pub returns : goal.returns
 returns c =
-    let a = c.args in
-    let all? = a.count_all_positions in
-    let inf = a.informative.now in
-    let ls = a.read_lengths.now in
-    let bs = a.read_bases.now in
-    let marks = a.read_aligned.now in
+    let all? = c.args.count_all_positions in
+    let inf = c.args.informative.now in
+    let ls = c.args.read_lengths.now in
+    let bs = c.args.read_bases.now in
+    let marks = c.args.read_aligned.now in
     let k = c.loop-k.k in
     let from = c.loop-k.from in (
-      sym (rest_end (bases_of a.pattern).unconverted all? inf ls bs marks k from c.loop-k.unconverted (omega arith)) ∙ c.loop-k.invariant.4,
-      sym (rest_end (bases_of a.pattern).converted all? inf ls bs marks k from c.loop-k.converted (omega arith)) ∙ c.loop-k.invariant.5,
+      sym (rest_end (bases_of c.args.pattern).unconverted all? inf ls bs marks k from c.loop-k.unconverted (omega arith)) ∙ c.loop-k.invariant.4,
+      sym (rest_end (bases_of c.args.pattern).converted all? inf ls bs marks k from c.loop-k.converted (omega arith)) ∙ c.loop-k.invariant.5,
     )

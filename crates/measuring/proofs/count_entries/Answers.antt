@@ -32,39 +32,30 @@ loop-at-init c = (refl, omega arith, omega arith, omega arith, omega arith, omeg
 
 pub returns-in_default : goal.returns-in_default
 returns-in_default c =
-    let a = c.args in
-    let h = c.loop-at in
-    let f = c.next_field-field in
-    let low : h.at < length a.text.now = omega arith in
-    λ (places : List ℕ) (e : a.all ≡ length places).
-    let x = h.invariant.6 places e in
+    let low : c.loop-at.at < length c.args.text.now = omega arith in
+    λ (places : List ℕ) (e : c.args.all ≡ length places).
+    let x = c.loop-at.invariant.6 places e in
     on_done_refused _ _ _ (x.2
-    ∙ turn_six a.values a.text.now h.at low c.loop-at-test.true f.result.now f.ensures a.ml.now h.used h.calls x.0 _ c.in_default.field-0
+    ∙ turn_six c.args.values c.args.text.now c.loop-at.at low c.loop-at-test.true c.next_field-field.result.now c.next_field-field.ensures c.args.ml.now c.loop-at.used c.loop-at.calls x.0 _ c.in_default.field-0
     (sym (ap skip_says c.in_default.is) ∙ c.read_skip-read.ensures)
     ∙ ap refused (sym (c.refusal.ensures ∙ ap skip_refusal c.in_default.is)))
 
 pub returns-then-left-skip : goal.returns-then-left-skip
 returns-then-left-skip c =
-    let a = c.args in
-    let h = c.loop-at in
-    let f = c.next_field-field in
-    let low : h.at < length a.text.now = omega arith in
-    λ (places : List ℕ) (e : a.all ≡ length places).
-    let x = h.invariant.6 places e in
+    let low : c.loop-at.at < length c.args.text.now = omega arith in
+    λ (places : List ℕ) (e : c.args.all ≡ length places).
+    let x = c.loop-at.invariant.6 places e in
     on_done_refused _ _ _ (x.2
-    ∙ turn_seven a.values a.text.now h.at low c.loop-at-test.true f.result.now f.ensures a.ml.now h.used h.calls x.0 c.in-Of.skip
+    ∙ turn_seven c.args.values c.args.text.now c.loop-at.at low c.loop-at-test.true c.next_field-field.result.now c.next_field-field.ensures c.args.ml.now c.loop-at.used c.loop-at.calls x.0 c.in-Of.skip
     (sym (ap skip_says c.in-Of.is) ∙ c.read_skip-read.ensures) (omega (arith, x.1)))
 
 pub returns-then-ml-used : goal.returns-then-ml-used
 returns-then-ml-used c =
-    let a = c.args in
-    let h = c.loop-at in
-    let f = c.next_field-field in
-    let low : h.at < length a.text.now = omega arith in
-    λ (places : List ℕ) (e : a.all ≡ length places).
-    let x = h.invariant.6 places e in
+    let low : c.loop-at.at < length c.args.text.now = omega arith in
+    λ (places : List ℕ) (e : c.args.all ≡ length places).
+    let x = c.loop-at.invariant.6 places e in
     on_done_refused _ _ _ (x.2
-    ∙ turn_eight a.values a.text.now h.at low c.loop-at-test.true f.result.now f.ensures a.ml.now h.used h.calls x.0 c.in-Of.skip
+    ∙ turn_eight c.args.values c.args.text.now c.loop-at.at low c.loop-at-test.true c.next_field-field.result.now c.next_field-field.ensures c.args.ml.now c.loop-at.used c.loop-at.calls x.0 c.in-Of.skip
     (sym (ap skip_says c.in-Of.is) ∙ c.read_skip-read.ensures) (omega (arith, x.1)) (omega (arith, x.1)) (omega arith))
 
 pub overflow_add-used : goal.overflow_add-used
@@ -84,39 +75,34 @@ loop-at-smaller c = omega (arith, bounds c)
 
 pub loop-at-preserved : goal.loop-at-preserved
 loop-at-preserved c =
-    let a = c.args in
-    let h = c.loop-at in
-    let f = c.next_field-field in
-    let t = a.text.now in
+    let t = c.args.text.now in
     let b = bounds c in
-    let low : h.at < length t = omega (arith, b) in
+    let low : c.loop-at.at < length t = omega (arith, b) in
     let comma = c.loop-at-test.true in (
-      omega (arith, h.invariant.0, turn_rest a.values nowhere t h.at low comma f.result.now f.ensures [] a.ml.now h.used),
-      turn_field a.values nowhere t h.at low comma f.result.now f.ensures [] a.ml.now h.used,
+      omega (arith, c.loop-at.invariant.0, turn_rest c.args.values nowhere t c.loop-at.at low comma c.next_field-field.result.now c.next_field-field.ensures [] c.args.ml.now c.loop-at.used),
+      turn_field c.args.values nowhere t c.loop-at.at low comma c.next_field-field.result.now c.next_field-field.ensures [] c.args.ml.now c.loop-at.used,
       b.0,
       omega (arith, b),
       omega (arith, b),
       omega arith,
-      λ (places : List ℕ) (e : a.all ≡ length places).
-          let x = h.invariant.6 places e in
-          let y = turn_passed a.values t h.at low comma f.result.now f.ensures a.ml.now h.used h.calls x.0 c.in-Of.skip
+      λ (places : List ℕ) (e : c.args.all ≡ length places).
+          let x = c.loop-at.invariant.6 places e in
+          let y = turn_passed c.args.values t c.loop-at.at low comma c.next_field-field.result.now c.next_field-field.ensures c.args.ml.now c.loop-at.used c.loop-at.calls x.0 c.in-Of.skip
           (sym (ap skip_says c.in-Of.is) ∙ c.read_skip-read.ensures) (omega (arith, x.1)) (omega (arith, x.1)) (omega arith) in
           (y.0, omega (arith, x.1, y.1), x.2 ∙ y.2),
     )
 
 pub returns : goal.returns
 returns c =
-    let a = c.args in
-    let h = c.loop-at in
-    let t = a.text.now in
-    let low : h.at < length t = omega arith in
-    let semi = ends_semicolon t h.at low h.invariant.1 c.loop-at-test.false in
-    λ (places : List ℕ) (e : a.all ≡ length places).
-    let x = h.invariant.6 places e in (
-      omega (arith, h.invariant.0, rest_semicolon t h.at low semi),
-      h.invariant.2,
+    let t = c.args.text.now in
+    let low : c.loop-at.at < length t = omega arith in
+    let semi = ends_semicolon t c.loop-at.at low c.loop-at.invariant.1 c.loop-at-test.false in
+    λ (places : List ℕ) (e : c.args.all ≡ length places).
+    let x = c.loop-at.invariant.6 places e in (
+      omega (arith, c.loop-at.invariant.0, rest_semicolon t c.loop-at.at low semi),
+      c.loop-at.invariant.2,
       refl,
-      h.invariant.3,
-      x.2 ∙ ap (on_done (spots_counted h.calls)) (turn_end a.values nowhere t h.at low semi x.0 (drop h.used a.ml.now))
-          ∙ count_last h.calls x.0 (drop h.used a.ml.now),
+      c.loop-at.invariant.3,
+      x.2 ∙ ap (on_done (spots_counted c.loop-at.calls)) (turn_end c.args.values nowhere t c.loop-at.at low semi x.0 (drop c.loop-at.used c.args.ml.now))
+          ∙ count_last c.loop-at.calls x.0 (drop c.loop-at.used c.args.ml.now),
     )

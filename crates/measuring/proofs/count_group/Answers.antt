@@ -18,85 +18,68 @@ use Rattle.measuring.specs.Counting.{EntriesCounted, GroupCounted}
 use Rattle.measuring.specs.declared.Count.{Count}
 use Rattle.measuring.specs.declared.Counted.{Counted}
 use Rattle.measuring.proofs.count_group.Goals as goal
-use Rattle.measuring.proofs.count_group.Tie.{After-count_entries-counted, Joined-else-marked}
-
-abbrev entries_at : (w : After-count_entries-counted) → Count
-entries_at w =
-    let s = w.args.start in
-    record { at = s.at + length w.next_field.result.now; used = s.used; group = s.group + 1; calls = s.calls }
-
-abbrev spots_at : (w : After-count_entries-counted) → Outcome (List Spot × List ℕ)
-spots_at w =
-    let a = w.args in
-    read_spots w.values_if.result nowhere
-    (led_by 44 (up_to 59 (drop (a.start.at + length w.next_field.result.now) a.text.now)))
-    (tracked w.base_of.result a.seq.now) (drop a.start.used a.ml.now)
-
--- what the entries' contract says of the answer r
-entries : (w : After-count_entries-counted) (r : Counted) → w.count_entries.result ≡ r →
-    let a = w.args in
-    EntriesCounted a.text.now a.ml.now (entries_at w) (spots_at w) r
-entries w r e =
-    let a = w.args in
-    subst (EntriesCounted a.text.now a.ml.now (entries_at w) (spots_at w)) e
-    (w.count_entries.ensures (tracked w.base_of.result a.seq.now) w.how_many.ensures)
-
--- a group that is counted denies no call: its header ends in '?', or no call is marked
-quiet : (j : Joined-else-marked) (named : ℕ → Bool) → (j.args.marked ≡ false → named ≡ nowhere) → denied_to j.next_field-header.result.now named ≡ nowhere
-quiet j named none =
-    let h = j.next_field-header.result.now in
-    ⊎_elim (λ w. quiet_question h named (sym j.ends_in_question-may_drop.ensures ∙ not-false _ w.1.left)) (λ w. quiet_unnamed h named (none w.left))
-    j.else-marked.branch
+use Rattle.measuring.proofs.count_group.Goals.{else-marked-via-then-marked+else-not-may_drop, else-marked-via-else-marked}
 
 pub returns-then-header-lt2 : goal.returns-then-header-lt2
 returns-then-header-lt2 c =
-    let a = c.args in
-    λ (named : ℕ → Bool) (none : a.marked ≡ false → named ≡ nowhere).
-    group_short a.has_ml named a.seq.now a.text.now a.start.at c.next_field-header.result.now c.next_field-header.ensures
-    (drop a.start.used a.ml.now) c.if-header-lt2.true
+    λ (named : ℕ → Bool) (none : c.args.marked ≡ false → named ≡ nowhere).
+    group_short c.args.has_ml named c.args.seq.now c.args.text.now c.args.start.at c.next_field-header.result.now c.next_field-header.ensures
+    (drop c.args.start.used c.args.ml.now) c.if-header-lt2.true
 
 pub count_entries-counted-requires : goal.count_entries-counted-requires
 count_entries-counted-requires c =
     let ends_together : let n = length c.next_field-header.result.now in c.args.start.at + n + length (up_to 59 (drop (c.args.start.at + n) c.args.text.now)) ≡ c.args.start.at + length (up_to 59 (drop c.args.start.at c.args.text.now)) = omega (arith, rest_from c.args.text.now c.args.start.at (length c.next_field-header.result.now) (ap length (sym c.next_field-header.ensures))) in
-    let a = c.args in
     let n = length c.next_field-header.result.now in
     let e = ends_together in
-    let few : c.how_many-all.result ≤ 16000 = omega (arith, c.how_many-all.ensures, tracked_short c.base_of-base.result a.seq.now, c.requires.0) in (
-      (omega arith, omega arith, few),
-      (omega (arith, e), (field_from a.text.now a.start.at n (ap length (sym c.next_field-header.ensures)), omega arith)),
-    )
+    let few : c.how_many-all.result ≤ 16000 = omega (arith, c.how_many-all.ensures, tracked_short c.base_of-base.result c.args.seq.now, c.requires.seq_len_bound) in record { text_len_bound = (omega arith, omega arith, few); text_in_bounds = omega (arith, e); text_len = field_from c.args.text.now c.args.start.at n (ap length (sym c.next_field-header.ensures)); used_in_bounds = omega arith }
 
 pub returns-in_default : goal.returns-in_default
 returns-in_default c =
-    let a = c.args in
-    let f = c.next_field in
-    λ (named : ℕ → Bool) (none : a.marked ≡ false → named ≡ nowhere).
-    unless_to (λ (x : Counted). GroupCounted a.marked a.text.now a.ml.now a.start
-    (read_group a.has_ml named a.seq.now (up_to 59 (drop a.start.at a.text.now)) (drop a.start.used a.ml.now)) x)
-    c.count_entries.result c.in_default.keys2
-    (λ q e. group_refused a.has_ml named a.seq.now a.text.now a.start.at f.result.now f.ensures (drop a.start.used a.ml.now)
-    c.if1.false c.values_if.result c.base_of.result c.values_if.ensures c.base_of.ensures
-    (quiet c named none) q (entries c _ e))
-    (λ e. absurd (entries c _ e))
+    let entries_at : Count = record { at = c.args.start.at + length c.next_field-header.result.now; used = c.args.start.used; group = c.args.start.group + 1; calls = c.args.start.calls } in
+    let spots_at : Outcome (List Spot × List ℕ) = read_spots c.values_if-values.result nowhere
+    (led_by 44 (up_to 59 (drop (c.args.start.at + length c.next_field-header.result.now) c.args.text.now)))
+    (tracked c.base_of-base.result c.args.seq.now) (drop c.args.start.used c.args.ml.now) in
+    let entries : (r : Counted) → c.count_entries-counted.result ≡ r → EntriesCounted c.args.text.now c.args.ml.now (entries_at) (spots_at) r = λ r e. subst (EntriesCounted c.args.text.now c.args.ml.now (entries_at) (spots_at)) e
+    (c.count_entries-counted.ensures (tracked c.base_of-base.result c.args.seq.now) c.how_many-all.ensures) in
+    let quiet : (named : ℕ → Bool) → (c.args.marked ≡ false → named ≡ nowhere) → denied_to c.next_field-header.result.now named ≡ nowhere = λ named none. elim c.else-marked.branch [ else-marked-via-then-marked+else-not-may_drop w ↦ quiet_question c.next_field-header.result.now named (sym c.ends_in_question-may_drop.ensures ∙ w.if-not-may_drop.false) | else-marked-via-else-marked w ↦ quiet_unnamed c.next_field-header.result.now named (none w.if-marked.false) ] in
+    λ (named : ℕ → Bool) (none : c.args.marked ≡ false → named ≡ nowhere).
+    unless_to (λ (x : Counted). GroupCounted c.args.marked c.args.text.now c.args.ml.now c.args.start
+    (read_group c.args.has_ml named c.args.seq.now (up_to 59 (drop c.args.start.at c.args.text.now)) (drop c.args.start.used c.args.ml.now)) x)
+    c.count_entries-counted.result c.in_default.not-To
+    (λ q e. group_refused c.args.has_ml named c.args.seq.now c.args.text.now c.args.start.at c.next_field-header.result.now c.next_field-header.ensures (drop c.args.start.used c.args.ml.now)
+    c.if-header-lt2.false c.values_if-values.result c.base_of-base.result c.values_if-values.ensures c.base_of-base.ensures
+    (quiet named none) q (entries _ e))
+    (λ e. absurd (entries _ e))
 
 pub overflow_add-result : goal.overflow_add-result
 overflow_add-result c =
+    let entries_at : Count = record { at = c.args.start.at + length c.next_field-header.result.now; used = c.args.start.used; group = c.args.start.group + 1; calls = c.args.start.calls } in
+    let spots_at : Outcome (List Spot × List ℕ) = read_spots c.values_if-values.result nowhere
+    (led_by 44 (up_to 59 (drop (c.args.start.at + length c.next_field-header.result.now) c.args.text.now)))
+    (tracked c.base_of-base.result c.args.seq.now) (drop c.args.start.used c.args.ml.now) in
+    let entries : (r : Counted) → c.count_entries-counted.result ≡ r → EntriesCounted c.args.text.now c.args.ml.now (entries_at) (spots_at) r = λ r e. subst (EntriesCounted c.args.text.now c.args.ml.now (entries_at) (spots_at)) e
+    (c.count_entries-counted.ensures (tracked c.base_of-base.result c.args.seq.now) c.how_many-all.ensures) in
     let ends_together : let n = length c.next_field-header.result.now in c.args.start.at + n + length (up_to 59 (drop (c.args.start.at + n) c.args.text.now)) ≡ c.args.start.at + length (up_to 59 (drop c.args.start.at c.args.text.now)) = omega (arith, rest_from c.args.text.now c.args.start.at (length c.next_field-header.result.now) (ap length (sym c.next_field-header.ensures))) in
-    let x = entries c _ c.in-To.is in
+    let x = entries _ c.in-To.is in
     omega (arith, x.0, ends_together, c.requires)
 
 pub returns : goal.returns
 returns c =
+    let entries_at : Count = record { at = c.args.start.at + length c.next_field-header.result.now; used = c.args.start.used; group = c.args.start.group + 1; calls = c.args.start.calls } in
+    let spots_at : Outcome (List Spot × List ℕ) = read_spots c.values_if-values.result nowhere
+    (led_by 44 (up_to 59 (drop (c.args.start.at + length c.next_field-header.result.now) c.args.text.now)))
+    (tracked c.base_of-base.result c.args.seq.now) (drop c.args.start.used c.args.ml.now) in
+    let entries : (r : Counted) → c.count_entries-counted.result ≡ r → EntriesCounted c.args.text.now c.args.ml.now (entries_at) (spots_at) r = λ r e. subst (EntriesCounted c.args.text.now c.args.ml.now (entries_at) (spots_at)) e
+    (c.count_entries-counted.ensures (tracked c.base_of-base.result c.args.seq.now) c.how_many-all.ensures) in
     let ends_together : let n = length c.next_field-header.result.now in c.args.start.at + n + length (up_to 59 (drop (c.args.start.at + n) c.args.text.now)) ≡ c.args.start.at + length (up_to 59 (drop c.args.start.at c.args.text.now)) = omega (arith, rest_from c.args.text.now c.args.start.at (length c.next_field-header.result.now) (ap length (sym c.next_field-header.ensures))) in
-    let a = c.args in
-    let f = c.next_field in
-    let x = entries c _ c.in-To.is in
-    λ (named : ℕ → Bool) (none : a.marked ≡ false → named ≡ nowhere). (
+    let quiet : (named : ℕ → Bool) → (c.args.marked ≡ false → named ≡ nowhere) → denied_to c.next_field-header.result.now named ≡ nowhere = λ named none. elim c.else-marked.branch [ else-marked-via-then-marked+else-not-may_drop w ↦ quiet_question c.next_field-header.result.now named (sym c.ends_in_question-may_drop.ensures ∙ w.if-not-may_drop.false) | else-marked-via-else-marked w ↦ quiet_unnamed c.next_field-header.result.now named (none w.if-marked.false) ] in
+    let x = entries _ c.in-To.is in
+    λ (named : ℕ → Bool) (none : c.args.marked ≡ false → named ≡ nowhere). (
       omega (arith, x.0, ends_together),
       x.1,
       x.2,
       omega (arith, x.3),
-      group_counted_lem a.has_ml named a.seq.now a.text.now a.start.at f.result.now f.ensures (drop a.start.used a.ml.now)
-          c.if1.false c.values_if.result c.base_of.result c.values_if.ensures c.base_of.ensures
-          (quiet c named none) a.start.calls ∙ x.4,
+      group_counted_lem c.args.has_ml named c.args.seq.now c.args.text.now c.args.start.at c.next_field-header.result.now c.next_field-header.ensures (drop c.args.start.used c.args.ml.now)
+          c.if-header-lt2.false c.values_if-values.result c.base_of-base.result c.values_if-values.ensures c.base_of-base.ensures
+          (quiet named none) c.args.start.calls ∙ x.4,
     )

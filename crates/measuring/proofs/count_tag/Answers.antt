@@ -15,15 +15,13 @@ use Rattle.measuring.proofs.count_tag.Goals as goal
 
 pub returns-then-not-ascii : goal.returns-then-not-ascii
 returns-then-not-ascii c =
-    let a = c.args in
-    λ (named : ℕ → Bool) (none : a.marked ≡ false → named ≡ nowhere).
-    read_three a.has_ml named a.seq.now a.text.now a.ml.now (sym c.all_IsAscii.ensures ∙ c.if-not-ascii.true)
+    λ (named : ℕ → Bool) (none : c.args.marked ≡ false → named ≡ nowhere).
+    read_three c.args.has_ml named c.args.seq.now c.args.text.now c.args.ml.now (sym c.all_ascii-ascii.ensures ∙ c.if-not-ascii.true)
 
 pub returns-then-not-closed : goal.returns-then-not-closed
 returns-then-not-closed c =
-    let a = c.args in
-    λ (named : ℕ → Bool) (none : a.marked ≡ false → named ≡ nowhere).
-    read_four a.has_ml named a.seq.now a.text.now a.ml.now (sym c.all_IsAscii.ensures ∙ c.if-not-ascii.false)
+    λ (named : ℕ → Bool) (none : c.args.marked ≡ false → named ≡ nowhere).
+    read_four c.args.has_ml named c.args.seq.now c.args.text.now c.args.ml.now (sym c.all_ascii-ascii.ensures ∙ c.if-not-ascii.false)
     (sym c.ends_in_semicolon-closed.ensures ∙ c.if-not-closed.true)
 
 pub count_groups-requires : goal.count_groups-requires
@@ -36,9 +34,8 @@ count_groups-requires c = (
 
 pub returns : goal.returns
 returns c =
-    let a = c.args in
-    λ (named : ℕ → Bool) (none : a.marked ≡ false → named ≡ nowhere).
-    subst (λ (o : Outcome (List Group)). TagCounted a.marked o c.count_groups.result)
-    (sym (read_on a.has_ml named a.seq.now a.text.now a.ml.now (sym c.all_IsAscii.ensures ∙ c.if-not-ascii.false)
+    λ (named : ℕ → Bool) (none : c.args.marked ≡ false → named ≡ nowhere).
+    subst (λ (o : Outcome (List Group)). TagCounted c.args.marked o c.count_groups.result)
+    (sym (read_on c.args.has_ml named c.args.seq.now c.args.text.now c.args.ml.now (sym c.all_ascii-ascii.ensures ∙ c.if-not-ascii.false)
     (sym c.ends_in_semicolon-closed.ensures ∙ c.if-not-closed.false) c.requires.3))
     (c.count_groups.ensures named none)

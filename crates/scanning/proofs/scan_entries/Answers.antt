@@ -24,35 +24,29 @@ loop-at-init c = (refl, omega arith, omega arith, omega arith, omega arith, omeg
 pub returns-in_default : goal.returns-in_default
 unfolding tracked tracked_from
 returns-in_default c =
-    let a = c.args in
-    let h = c.loop-at in
-    let f = c.next_field-field in
-    let places = tracked_from a.base h.from.0 a.seq.now in
-    let left = length a.ml.now - h.used in
-    let low : h.at < length a.text.now = omega arith in
-    let six-or-seven : read_entry a.values nowhere f.result.now places left ≡ refused c.in_default.field-0 =
-    entry_refused a.values nowhere f.result.now places left c.in_default.field-0
+    let places = tracked_from c.args.base c.loop-at.from.0 c.args.seq.now in
+    let left = length c.args.ml.now - c.loop-at.used in
+    let low : c.loop-at.at < length c.args.text.now = omega arith in
+    let six-or-seven : read_entry c.args.values nowhere c.next_field-field.result.now places left ≡ refused c.in_default.field-0 =
+    entry_refused c.args.values nowhere c.next_field-field.result.now places left c.in_default.field-0
     (sym (ap entry_says c.in_default.is) ∙ c.find_entry-entry.ensures) in
-    on_done_refused _ _ _ (h.invariant.6
-    ∙ ap (on_done (listed_spots a.start.group (columns h.groups h.places h.starts) h.calls h.used))
-    (turn_refused a.values nowhere a.text.now h.at low c.loop-at-test.true f.result.now
-    f.ensures places a.ml.now h.used c.in_default.field-0 six-or-seven)
+    on_done_refused _ _ _ (c.loop-at.invariant.6
+    ∙ ap (on_done (listed_spots c.args.start.group (columns c.loop-at.groups c.loop-at.places c.loop-at.starts) c.loop-at.calls c.loop-at.used))
+    (turn_refused c.args.values nowhere c.args.text.now c.loop-at.at low c.loop-at-test.true c.next_field-field.result.now
+    c.next_field-field.ensures places c.args.ml.now c.loop-at.used c.in_default.field-0 six-or-seven)
     ∙ ap refused (sym (c.refusal.ensures ∙ ap entry_refusal c.in_default.is)))
 
 pub returns-then-ml-used : goal.returns-then-ml-used
 unfolding tracked tracked_from
 returns-then-ml-used c =
-    let a = c.args in
-    let h = c.loop-at in
-    let f = c.next_field-field in
-    let places = tracked_from a.base h.from.0 a.seq.now in
-    let left = length a.ml.now - h.used in
-    let low : h.at < length a.text.now = omega arith in
-    on_done_refused _ _ _ (h.invariant.6
-    ∙ ap (on_done (listed_spots a.start.group (columns h.groups h.places h.starts) h.calls h.used))
-    (turn_refused a.values nowhere a.text.now h.at low c.loop-at-test.true f.result.now
-    f.ensures places a.ml.now h.used _
-    (entry_eight a.values nowhere f.result.now places left c.in-On.place.0
+    let places = tracked_from c.args.base c.loop-at.from.0 c.args.seq.now in
+    let left = length c.args.ml.now - c.loop-at.used in
+    let low : c.loop-at.at < length c.args.text.now = omega arith in
+    on_done_refused _ _ _ (c.loop-at.invariant.6
+    ∙ ap (on_done (listed_spots c.args.start.group (columns c.loop-at.groups c.loop-at.places c.loop-at.starts) c.loop-at.calls c.loop-at.used))
+    (turn_refused c.args.values nowhere c.args.text.now c.loop-at.at low c.loop-at-test.true c.next_field-field.result.now
+    c.next_field-field.ensures places c.args.ml.now c.loop-at.used _
+    (entry_eight c.args.values nowhere c.next_field-field.result.now places left c.in-On.place.0
     (sym (ap entry_says c.in-On.is) ∙ c.find_entry-entry.ensures) (omega arith))))
 
 pub list_call-requires : goal.list_call-requires
@@ -118,57 +112,51 @@ loop-at-preserved c =
     let rest = turn_rest c.args.values nowhere c.args.text.now c.loop-at.at low c.loop-at-test.true
     c.next_field-field.result.now c.next_field-field.ensures [] c.args.ml.now c.loop-at.used in
     omega (arith, rest)) in
-    let a = c.args in
-    let h = c.loop-at in
-    let f = c.next_field-field in
     let w = went in
     let p = c.in-On.place.0 in
-    let t = a.text.now in
-    let places = tracked_from a.base h.from.0 a.seq.now in
+    let t = c.args.text.now in
+    let places = tracked_from c.args.base c.loop-at.from.0 c.args.seq.now in
     let b = bounds in
-    let low : h.at < length t = omega (arith, b) in
+    let low : c.loop-at.at < length t = omega (arith, b) in
     let comma = c.loop-at-test.true in
-    let l = c.list_call in
-    let in-groups : l.new.groups ≡ set h.groups h.calls a.start.group = l.ensures.0 in
-    let in-places : l.new.places ≡ set h.places h.calls p = l.ensures.1.0 in
-    let in-starts : l.new.starts ≡ set h.starts h.calls h.used = l.ensures.1.1 in
-    let rest = read_spots a.values nowhere (led_by 44 (up_to 59 (drop (h.at + 1 + length f.result.now) t)))
-    (tracked_from a.base (p + 1) a.seq.now) (drop (h.used + a.values) a.ml.now) in (
-      omega (arith, h.invariant.0, turn_rest a.values nowhere t h.at low comma f.result.now f.ensures places a.ml.now h.used),
-      turn_field a.values nowhere t h.at low comma f.result.now f.ensures places a.ml.now h.used,
+    let in-groups : c.list_call.new.groups ≡ set c.loop-at.groups c.loop-at.calls c.args.start.group = c.list_call.ensures.groups_after in
+    let in-places : c.list_call.new.places ≡ set c.loop-at.places c.loop-at.calls p = c.list_call.ensures.places_after in
+    let in-starts : c.list_call.new.starts ≡ set c.loop-at.starts c.loop-at.calls c.loop-at.used = c.list_call.ensures.starts_after in
+    let rest = read_spots c.args.values nowhere (led_by 44 (up_to 59 (drop (c.loop-at.at + 1 + length c.next_field-field.result.now) t)))
+    (tracked_from c.args.base (p + 1) c.args.seq.now) (drop (c.loop-at.used + c.args.values) c.args.ml.now) in (
+      omega (arith, c.loop-at.invariant.0, turn_rest c.args.values nowhere t c.loop-at.at low comma c.next_field-field.result.now c.next_field-field.ensures places c.args.ml.now c.loop-at.used),
+      turn_field c.args.values nowhere t c.loop-at.at low comma c.next_field-field.result.now c.next_field-field.ensures places c.args.ml.now c.loop-at.used,
       omega (arith, w.1),
       b.0,
       omega (arith, b),
       omega (arith, b),
-      h.invariant.6
-          ∙ ap (on_done (listed_spots a.start.group (columns h.groups h.places h.starts) h.calls h.used))
-          (turn_on a.values nowhere t h.at low comma f.result.now f.ensures places a.ml.now h.used p
-          (tracked_from a.base (p + 1) a.seq.now) w.0)
-          ∙ list_one a.start.group (columns h.groups h.places h.starts) h.calls h.used (take (value f.result.now) places) p
-          (take a.values (drop h.used a.ml.now)) a.values
-          (length-take-le a.values (drop h.used a.ml.now) (omega (arith, length-drop h.used a.ml.now))) rest
-          ∙ (λ j. on_done (listed_spots a.start.group (columns (sym in-groups j) (sym in-places j) (sym in-starts j))
-          (h.calls + 1) (h.used + a.values)) rest),
-      l.auto.groups ∙ h.invariant.7,
-      l.auto.places ∙ h.invariant.8,
-      l.auto.starts ∙ h.invariant.9,
+      c.loop-at.invariant.6
+          ∙ ap (on_done (listed_spots c.args.start.group (columns c.loop-at.groups c.loop-at.places c.loop-at.starts) c.loop-at.calls c.loop-at.used))
+          (turn_on c.args.values nowhere t c.loop-at.at low comma c.next_field-field.result.now c.next_field-field.ensures places c.args.ml.now c.loop-at.used p
+          (tracked_from c.args.base (p + 1) c.args.seq.now) w.0)
+          ∙ list_one c.args.start.group (columns c.loop-at.groups c.loop-at.places c.loop-at.starts) c.loop-at.calls c.loop-at.used (take (value c.next_field-field.result.now) places) p
+          (take c.args.values (drop c.loop-at.used c.args.ml.now)) c.args.values
+          (length-take-le c.args.values (drop c.loop-at.used c.args.ml.now) (omega (arith, length-drop c.loop-at.used c.args.ml.now))) rest
+          ∙ (λ j. on_done (listed_spots c.args.start.group (columns (sym in-groups j) (sym in-places j) (sym in-starts j))
+          (c.loop-at.calls + 1) (c.loop-at.used + c.args.values)) rest),
+      c.list_call.auto.groups ∙ c.loop-at.invariant.7,
+      c.list_call.auto.places ∙ c.loop-at.invariant.8,
+      c.list_call.auto.starts ∙ c.loop-at.invariant.9,
     )
 
 pub returns : goal.returns
 unfolding tracked tracked_from
 returns c =
-    let a = c.args in
-    let h = c.loop-at in
-    let t = a.text.now in
-    let places = tracked_from a.base h.from.0 a.seq.now in
-    let low : h.at < length t = omega arith in
-    let semi = ends_semicolon t h.at low h.invariant.1 c.loop-at-test.false in (
-      omega (arith, rest_semicolon t h.at low semi),
-      h.invariant.3,
+    let t = c.args.text.now in
+    let places = tracked_from c.args.base c.loop-at.from.0 c.args.seq.now in
+    let low : c.loop-at.at < length t = omega arith in
+    let semi = ends_semicolon t c.loop-at.at low c.loop-at.invariant.1 c.loop-at-test.false in (
+      omega (arith, rest_semicolon t c.loop-at.at low semi),
+      c.loop-at.invariant.3,
       refl,
-      h.invariant.4,
-      h.invariant.6
-          ∙ ap (on_done (listed_spots a.start.group (columns h.groups h.places h.starts) h.calls h.used))
-          (turn_end a.values nowhere t h.at low semi places (drop h.used a.ml.now))
-          ∙ list_end a.start.group (columns h.groups h.places h.starts) h.calls h.used places (drop h.used a.ml.now),
+      c.loop-at.invariant.4,
+      c.loop-at.invariant.6
+          ∙ ap (on_done (listed_spots c.args.start.group (columns c.loop-at.groups c.loop-at.places c.loop-at.starts) c.loop-at.calls c.loop-at.used))
+          (turn_end c.args.values nowhere t c.loop-at.at low semi places (drop c.loop-at.used c.args.ml.now))
+          ∙ list_end c.args.start.group (columns c.loop-at.groups c.loop-at.places c.loop-at.starts) c.loop-at.calls c.loop-at.used places (drop c.loop-at.used c.args.ml.now),
     )

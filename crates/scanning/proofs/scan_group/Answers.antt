@@ -15,96 +15,94 @@ use Rattle.scanning.specs.Scanning.{EntriesScanned, GroupScanned, columns}
 use Rattle.scanning.specs.declared.Cursor.{Cursor}
 use Rattle.scanning.specs.declared.Scan.{Scan}
 use Rattle.scanning.proofs.scan_group.Goals as goal
-use Rattle.scanning.proofs.scan_group.Tie.{After-scan_entries-scanned}
-
-abbrev entries_at : (w : After-scan_entries-scanned) → Cursor
-entries_at w =
-    let s = w.args.start in
-    record {
-      at = s.at + length
-          w.next_field.result.now;
-      used = s.used;
-      group = s.group + 1;
-      calls = s.calls;
-    }
-
-abbrev spots_at : (w : After-scan_entries-scanned) → Outcome (List Spot × List ℕ)
-spots_at w =
-    let a = w.args in
-    read_spots w.values_if.result nowhere
-    (led_by 44 (up_to 59 (drop (a.start.at + length w.next_field.result.now)
-    a.text.now)))
-    (tracked w.base_of.result a.seq.now) (drop a.start.used a.ml.now)
-
--- what the entries' contract says of the answer r
-entries : (w : After-scan_entries-scanned) (r : Scan) → w.scan_entries.result ≡ r →
-    let a = w.args in
-    let l = w.scan_entries.new.1.1.1.1.1.1 in
-    EntriesScanned a.text.now a.ml.now (entries_at w) (spots_at w) (columns a.groups.now a.places.now a.starts.now) r
-    (columns l.0 l.1.0 l.1.1.0)
-entries w r e =
-    let a = w.args in
-    let l = w.scan_entries.new.1.1.1.1.1.1 in
-    subst (λ (x : Scan). EntriesScanned a.text.now a.ml.now (entries_at w) (spots_at w)
-    (columns a.groups.now a.places.now a.starts.now) x
-    (columns l.0 l.1.0 l.1.1.0)) e w.scan_entries.ensures
 
 pub returns-then-header-lt2 : goal.returns-then-header-lt2
 returns-then-header-lt2 c =
-    let a = c.args in
-    group_short a.has_ml nowhere a.seq.now a.text.now a.start.at c.next_field-header.result.now c.next_field-header.ensures
-    (drop a.start.used a.ml.now) c.if-header-lt2.true
+    group_short c.args.has_ml nowhere c.args.seq.now c.args.text.now c.args.start.at c.next_field-header.result.now c.next_field-header.ensures
+    (drop c.args.start.used c.args.ml.now) c.if-header-lt2.true
 
 pub scan_entries-scanned-requires : goal.scan_entries-scanned-requires
 scan_entries-scanned-requires c =
     let ends_together : let n = length c.next_field-header.result.now in c.args.start.at + n + length (up_to 59 (drop (c.args.start.at + n) c.args.text.now)) ≡ c.args.start.at + length (up_to 59 (drop c.args.start.at c.args.text.now)) = omega (arith, rest_from c.args.text.now c.args.start.at (length c.next_field-header.result.now) (ap length (sym c.next_field-header.ensures))) in
-    let a = c.args in
     let n = length c.next_field-header.result.now in
-    let e = ends_together in (
-      (omega arith, omega arith, omega arith),
-      (omega (arith, e), (field_from a.text.now a.start.at n (ap length (sym c.next_field-header.ensures)), omega arith)),
-    )
+    let e = ends_together in record { seq_len_bound = (omega arith, omega arith, omega arith); text_in_bounds = omega (arith, e); text_len = field_from c.args.text.now c.args.start.at n (ap length (sym c.next_field-header.ensures)); used_in_bounds = omega arith }
 
 pub returns-in_default : goal.returns-in_default
 returns-in_default c =
-    let a = c.args in
-    let f = c.next_field in
-    let l = c.scan_entries.new.1.1.1.1.1.1 in
-    subst (λ (x : Scan). GroupScanned a.text.now a.ml.now a.start
-    (read_group a.has_ml nowhere a.seq.now (up_to 59 (drop a.start.at a.text.now)) (drop a.start.used a.ml.now))
-    (columns a.groups.now a.places.now a.starts.now) x (columns l.0 l.1.0 l.1.1.0)) (sym c.in_default.is)
-    (group_refused a.has_ml a.seq.now a.text.now a.start.at f.result.now f.ensures (drop a.start.used a.ml.now)
-    c.if1.false
-    c.values_if.result c.base_of.result
-    c.values_if.ensures c.base_of.ensures c.in_default.field-0
-    (entries c _ c.in_default.is))
+    let entries_at : Cursor = record {
+      at = c.args.start.at + length
+          c.next_field-header.result.now;
+      used = c.args.start.used;
+      group = c.args.start.group + 1;
+      calls = c.args.start.calls;
+    } in
+    let spots_at : Outcome (List Spot × List ℕ) = read_spots c.values_if-values.result nowhere
+    (led_by 44 (up_to 59 (drop (c.args.start.at + length c.next_field-header.result.now)
+    c.args.text.now)))
+    (tracked c.base_of-base.result c.args.seq.now) (drop c.args.start.used c.args.ml.now) in
+    let entries : (r : Scan) → c.scan_entries-scanned.result ≡ r → EntriesScanned c.args.text.now c.args.ml.now (entries_at) (spots_at) (columns c.args.groups.now c.args.places.now c.args.starts.now) r (columns c.scan_entries-scanned.new.groups c.scan_entries-scanned.new.places c.scan_entries-scanned.new.starts) = λ r e. subst (λ (x : Scan). EntriesScanned c.args.text.now c.args.ml.now (entries_at) (spots_at)
+    (columns c.args.groups.now c.args.places.now c.args.starts.now) x
+    (columns c.scan_entries-scanned.new.groups c.scan_entries-scanned.new.places c.scan_entries-scanned.new.starts)) e c.scan_entries-scanned.ensures in
+    subst (λ (x : Scan). GroupScanned c.args.text.now c.args.ml.now c.args.start
+    (read_group c.args.has_ml nowhere c.args.seq.now (up_to 59 (drop c.args.start.at c.args.text.now)) (drop c.args.start.used c.args.ml.now))
+    (columns c.args.groups.now c.args.places.now c.args.starts.now) x (columns c.scan_entries-scanned.new.groups c.scan_entries-scanned.new.places c.scan_entries-scanned.new.starts)) (sym c.in_default.is)
+    (group_refused c.args.has_ml c.args.seq.now c.args.text.now c.args.start.at c.next_field-header.result.now c.next_field-header.ensures (drop c.args.start.used c.args.ml.now)
+    c.if-header-lt2.false
+    c.values_if-values.result c.base_of-base.result
+    c.values_if-values.ensures c.base_of-base.ensures c.in_default.field-0
+    (entries _ c.in_default.is))
 
 pub overflow_add-result : goal.overflow_add-result
 overflow_add-result c =
+    let entries_at : Cursor = record {
+      at = c.args.start.at + length
+          c.next_field-header.result.now;
+      used = c.args.start.used;
+      group = c.args.start.group + 1;
+      calls = c.args.start.calls;
+    } in
+    let spots_at : Outcome (List Spot × List ℕ) = read_spots c.values_if-values.result nowhere
+    (led_by 44 (up_to 59 (drop (c.args.start.at + length c.next_field-header.result.now)
+    c.args.text.now)))
+    (tracked c.base_of-base.result c.args.seq.now) (drop c.args.start.used c.args.ml.now) in
+    let entries : (r : Scan) → c.scan_entries-scanned.result ≡ r → EntriesScanned c.args.text.now c.args.ml.now (entries_at) (spots_at) (columns c.args.groups.now c.args.places.now c.args.starts.now) r (columns c.scan_entries-scanned.new.groups c.scan_entries-scanned.new.places c.scan_entries-scanned.new.starts) = λ r e. subst (λ (x : Scan). EntriesScanned c.args.text.now c.args.ml.now (entries_at) (spots_at)
+    (columns c.args.groups.now c.args.places.now c.args.starts.now) x
+    (columns c.scan_entries-scanned.new.groups c.scan_entries-scanned.new.places c.scan_entries-scanned.new.starts)) e c.scan_entries-scanned.ensures in
     let ends_together : let n = length c.next_field-header.result.now in c.args.start.at + n + length (up_to 59 (drop (c.args.start.at + n) c.args.text.now)) ≡ c.args.start.at + length (up_to 59 (drop c.args.start.at c.args.text.now)) = omega (arith, rest_from c.args.text.now c.args.start.at (length c.next_field-header.result.now) (ap length (sym c.next_field-header.ensures))) in
-    let x = entries c _ c.in-To.is in
+    let x = entries _ c.in-To.is in
     omega (
       arith,
       x.0,
-      ends_together
-          c,
+      ends_together,
       c.requires,
     )
 
 pub returns : goal.returns
 returns c =
+    let entries_at : Cursor = record {
+      at = c.args.start.at + length
+          c.next_field-header.result.now;
+      used = c.args.start.used;
+      group = c.args.start.group + 1;
+      calls = c.args.start.calls;
+    } in
+    let spots_at : Outcome (List Spot × List ℕ) = read_spots c.values_if-values.result nowhere
+    (led_by 44 (up_to 59 (drop (c.args.start.at + length c.next_field-header.result.now)
+    c.args.text.now)))
+    (tracked c.base_of-base.result c.args.seq.now) (drop c.args.start.used c.args.ml.now) in
+    let entries : (r : Scan) → c.scan_entries-scanned.result ≡ r → EntriesScanned c.args.text.now c.args.ml.now (entries_at) (spots_at) (columns c.args.groups.now c.args.places.now c.args.starts.now) r (columns c.scan_entries-scanned.new.groups c.scan_entries-scanned.new.places c.scan_entries-scanned.new.starts) = λ r e. subst (λ (x : Scan). EntriesScanned c.args.text.now c.args.ml.now (entries_at) (spots_at)
+    (columns c.args.groups.now c.args.places.now c.args.starts.now) x
+    (columns c.scan_entries-scanned.new.groups c.scan_entries-scanned.new.places c.scan_entries-scanned.new.starts)) e c.scan_entries-scanned.ensures in
     let ends_together : let n = length c.next_field-header.result.now in c.args.start.at + n + length (up_to 59 (drop (c.args.start.at + n) c.args.text.now)) ≡ c.args.start.at + length (up_to 59 (drop c.args.start.at c.args.text.now)) = omega (arith, rest_from c.args.text.now c.args.start.at (length c.next_field-header.result.now) (ap length (sym c.next_field-header.ensures))) in
-    let a = c.args in
-    let f = c.next_field in
-    let x = entries c _ c.in-To.is in (
+    let x = entries _ c.in-To.is in (
       omega (arith, x.0, ends_together),
       x.1,
       x.2,
       omega (arith, x.3),
-      group_listed a.has_ml a.seq.now a.text.now a.start.at f.result.now f.ensures (drop a.start.used a.ml.now)
-          c.if1.false
-          c.values_if.result c.base_of.result
-          c.values_if.ensures c.base_of.ensures
-          (a.start.group + 1)
-          (columns a.groups.now a.places.now a.starts.now) a.start.calls a.start.used ∙ x.4,
+      group_listed c.args.has_ml c.args.seq.now c.args.text.now c.args.start.at c.next_field-header.result.now c.next_field-header.ensures (drop c.args.start.used c.args.ml.now)
+          c.if-header-lt2.false
+          c.values_if-values.result c.base_of-base.result
+          c.values_if-values.ensures c.base_of-base.ensures
+          (c.args.start.group + 1)
+          (columns c.args.groups.now c.args.places.now c.args.starts.now) c.args.start.calls c.args.start.used ∙ x.4,
     )

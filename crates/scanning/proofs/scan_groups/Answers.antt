@@ -11,24 +11,6 @@ use Rattle.scanning.proofs.ScanLaws.{finish_none, groups_refused, groups_turn}
 use Rattle.scanning.specs.Scanning.{GroupScanned, TagScanned, columns, finished}
 use Rattle.scanning.specs.declared.Scan.{Scan}
 use Rattle.scanning.proofs.scan_groups.Goals as goal
-use Rattle.scanning.proofs.scan_groups.Tie.{After-scan_group-scanned}
-use Rattle.scanning.proofs.scan_groups.Invariants.{decreases-loop-c, invariant-loop-c}
-
--- what the group's contract says of the answer r
-group : (w : After-scan_group-scanned invariant-loop-c decreases-loop-c) (r : Scan) → w.scan_group.result ≡ r →
-    let a = w.args in
-    let h = w.loop in
-    let l = w.scan_group.new.1.1.1.1.1 in
-    GroupScanned a.text.now a.ml.now h.c
-    (read_group a.has_ml nowhere a.seq.now (up_to 59 (drop h.c.at a.text.now)) (drop h.c.used a.ml.now))
-    (columns h.groups h.places h.starts) r (columns l.0 l.1.0 l.1.1.0)
-group w r e =
-    let a = w.args in
-    let h = w.loop in
-    let l = w.scan_group.new.1.1.1.1.1 in
-    subst (λ (x : Scan). GroupScanned a.text.now a.ml.now h.c
-    (read_group a.has_ml nowhere a.seq.now (up_to 59 (drop h.c.at a.text.now)) (drop h.c.used a.ml.now))
-    (columns h.groups h.places h.starts) x (columns l.0 l.1.0 l.1.1.0)) e w.scan_group.ensures
 
 pub loop-c-init : goal.loop-c-init
 loop-c-init c = (omega arith, omega arith, omega arith, omega arith, refl, refl, refl, refl)
@@ -38,64 +20,64 @@ scan_group-scanned-requires c =
     let inside : c.loop-c.c.at < length c.args.text.now = omega arith in
     let far = ahead c.args.text.now c.loop-c.c.at
     (inside) c.requires.3 in
-    ((omega arith, omega arith, omega arith), (far, omega arith))
+    record { seq_len_bound = (omega arith, omega arith, omega arith); text_in_bounds = far; used_in_bounds = omega arith }
 
 pub returns-in_default : goal.returns-in_default
 returns-in_default c =
+    let group : (r : Scan) → c.scan_group-scanned.result ≡ r → GroupScanned c.args.text.now c.args.ml.now c.loop-c.c (read_group c.args.has_ml nowhere c.args.seq.now (up_to 59 (drop c.loop-c.c.at c.args.text.now)) (drop c.loop-c.c.used c.args.ml.now)) (columns c.loop-c.groups c.loop-c.places c.loop-c.starts) r (columns c.scan_group-scanned.new.groups c.scan_group-scanned.new.places c.scan_group-scanned.new.starts) = λ r e. subst (λ (x : Scan). GroupScanned c.args.text.now c.args.ml.now c.loop-c.c
+    (read_group c.args.has_ml nowhere c.args.seq.now (up_to 59 (drop c.loop-c.c.at c.args.text.now)) (drop c.loop-c.c.used c.args.ml.now))
+    (columns c.loop-c.groups c.loop-c.places c.loop-c.starts) x (columns c.scan_group-scanned.new.groups c.scan_group-scanned.new.places c.scan_group-scanned.new.starts)) e c.scan_group-scanned.ensures in
     let inside : c.loop-c.c.at < length c.args.text.now = omega arith in
-    let a = c.args in
-    let h = c.loop in
-    let l = c.scan_group.new.1.1.1.1.1 in
-    subst (λ (x : Scan). TagScanned (read_groups a.has_ml nowhere a.seq.now (closed_by 59 a.text.now) a.ml.now)
-    (columns a.groups.now a.places.now a.starts.now) x (columns l.0 l.1.0 l.1.1.0)) (sym c.in_default.is)
-    (on_done_refused _ _ _ (h.invariant.4
-    ∙ ap (on_done (finished h.c.group (columns h.groups h.places h.starts) h.c.calls h.c.used))
-    (groups_refused a.has_ml a.seq.now a.text.now h.c.at (inside)
+    subst (λ (x : Scan). TagScanned (read_groups c.args.has_ml nowhere c.args.seq.now (closed_by 59 c.args.text.now) c.args.ml.now)
+    (columns c.args.groups.now c.args.places.now c.args.starts.now) x (columns c.scan_group-scanned.new.groups c.scan_group-scanned.new.places c.scan_group-scanned.new.starts)) (sym c.in_default.is)
+    (on_done_refused _ _ _ (c.loop-c.invariant.4
+    ∙ ap (on_done (finished c.loop-c.c.group (columns c.loop-c.groups c.loop-c.places c.loop-c.starts) c.loop-c.c.calls c.loop-c.c.used))
+    (groups_refused c.args.has_ml c.args.seq.now c.args.text.now c.loop-c.c.at (inside)
     c.requires.3
-    (drop h.c.used a.ml.now) c.in_default.field-0 (group c _ c.in_default.is))))
+    (drop c.loop-c.c.used c.args.ml.now) c.in_default.field-0 (group _ c.in_default.is))))
 
 pub loop-c-smaller : goal.loop-c-smaller
 loop-c-smaller c =
+    let group : (r : Scan) → c.scan_group-scanned.result ≡ r → GroupScanned c.args.text.now c.args.ml.now c.loop-c.c (read_group c.args.has_ml nowhere c.args.seq.now (up_to 59 (drop c.loop-c.c.at c.args.text.now)) (drop c.loop-c.c.used c.args.ml.now)) (columns c.loop-c.groups c.loop-c.places c.loop-c.starts) r (columns c.scan_group-scanned.new.groups c.scan_group-scanned.new.places c.scan_group-scanned.new.starts) = λ r e. subst (λ (x : Scan). GroupScanned c.args.text.now c.args.ml.now c.loop-c.c
+    (read_group c.args.has_ml nowhere c.args.seq.now (up_to 59 (drop c.loop-c.c.at c.args.text.now)) (drop c.loop-c.c.used c.args.ml.now))
+    (columns c.loop-c.groups c.loop-c.places c.loop-c.starts) x (columns c.scan_group-scanned.new.groups c.scan_group-scanned.new.places c.scan_group-scanned.new.starts)) e c.scan_group-scanned.ensures in
     let inside : c.loop-c.c.at < length c.args.text.now = omega arith in
-    let x = group c _ c.in-To.is in
+    let x = group _ c.in-To.is in
     omega (arith, x.0, inside)
 
 pub loop-c-preserved : goal.loop-c-preserved
 loop-c-preserved c =
+    let group : (r : Scan) → c.scan_group-scanned.result ≡ r → GroupScanned c.args.text.now c.args.ml.now c.loop-c.c (read_group c.args.has_ml nowhere c.args.seq.now (up_to 59 (drop c.loop-c.c.at c.args.text.now)) (drop c.loop-c.c.used c.args.ml.now)) (columns c.loop-c.groups c.loop-c.places c.loop-c.starts) r (columns c.scan_group-scanned.new.groups c.scan_group-scanned.new.places c.scan_group-scanned.new.starts) = λ r e. subst (λ (x : Scan). GroupScanned c.args.text.now c.args.ml.now c.loop-c.c
+    (read_group c.args.has_ml nowhere c.args.seq.now (up_to 59 (drop c.loop-c.c.at c.args.text.now)) (drop c.loop-c.c.used c.args.ml.now))
+    (columns c.loop-c.groups c.loop-c.places c.loop-c.starts) x (columns c.scan_group-scanned.new.groups c.scan_group-scanned.new.places c.scan_group-scanned.new.starts)) e c.scan_group-scanned.ensures in
     let inside : c.loop-c.c.at < length c.args.text.now = omega arith in
-    let a = c.args in
-    let h = c.loop in
-    let x = group c _ c.in-To.is in
-    let far = ahead a.text.now h.c.at (inside)
+    let x = group _ c.in-To.is in
+    let far = ahead c.args.text.now c.loop-c.c.at (inside)
     c.requires.3 in
-    let k = c.scan_group.auto.1.1.1.1.1 in (
+    (
       omega (arith, x.0, far),
       x.1,
-      omega (arith, x.0, x.2, h.invariant.2),
+      omega (arith, x.0, x.2, c.loop-c.invariant.2),
       x.3,
-      h.invariant.4 ∙ groups_turn a.has_ml a.seq.now a.text.now h.c.at (inside)
+      c.loop-c.invariant.4 ∙ groups_turn c.args.has_ml c.args.seq.now c.args.text.now c.loop-c.c.at (inside)
           c.requires.3
-          (drop h.c.used a.ml.now)
-          h.c.group (columns h.groups h.places h.starts) h.c.calls h.c.used _ _ _ _ x.0 x.2 x.4,
-      k.0 ∙ h.invariant.5,
-      k.1.0 ∙ h.invariant.6,
-      k.1.1.0 ∙ h.invariant.7,
+          (drop c.loop-c.c.used c.args.ml.now)
+          c.loop-c.c.group (columns c.loop-c.groups c.loop-c.places c.loop-c.starts) c.loop-c.c.calls c.loop-c.c.used _ _ _ _ x.0 x.2 x.4,
+      c.scan_group-scanned.auto.groups ∙ c.loop-c.invariant.5,
+      c.scan_group-scanned.auto.places ∙ c.loop-c.invariant.6,
+      c.scan_group-scanned.auto.starts ∙ c.loop-c.invariant.7,
     )
 
 pub returns-then-c-ml : goal.returns-then-c-ml
 returns-then-c-ml c =
-    let a = c.args in
-    let h = c.loop-c in
-    on_done_refused _ _ _ (h.invariant.4
-    ∙ ap (on_done (finished h.c.group (columns h.groups h.places h.starts) h.c.calls h.c.used))
-    (groups_over a.has_ml nowhere a.seq.now a.text.now h.c.at (omega arith) a.ml.now h.c.used (omega arith)))
+    on_done_refused _ _ _ (c.loop-c.invariant.4
+    ∙ ap (on_done (finished c.loop-c.c.group (columns c.loop-c.groups c.loop-c.places c.loop-c.starts) c.loop-c.c.calls c.loop-c.c.used))
+    (groups_over c.args.has_ml nowhere c.args.seq.now c.args.text.now c.loop-c.c.at (omega arith) c.args.ml.now c.loop-c.c.used (omega arith)))
 
 pub returns : goal.returns
 returns c =
-    let a = c.args in
-    let h = c.loop-c in
-    let all : length a.ml.now ≤ h.c.used = omega arith in
-    h.invariant.4
-    ∙ ap (on_done (finished h.c.group (columns h.groups h.places h.starts) h.c.calls h.c.used))
-    (groups_done a.has_ml nowhere a.seq.now a.text.now h.c.at (omega arith) a.ml.now h.c.used all)
-    ∙ finish_none h.c.group (columns h.groups h.places h.starts) h.c.calls h.c.used
+    let all : length c.args.ml.now ≤ c.loop-c.c.used = omega arith in
+    c.loop-c.invariant.4
+    ∙ ap (on_done (finished c.loop-c.c.group (columns c.loop-c.groups c.loop-c.places c.loop-c.starts) c.loop-c.c.calls c.loop-c.c.used))
+    (groups_done c.args.has_ml nowhere c.args.seq.now c.args.text.now c.loop-c.c.at (omega arith) c.args.ml.now c.loop-c.c.used all)
+    ∙ finish_none c.loop-c.c.group (columns c.loop-c.groups c.loop-c.places c.loop-c.starts) c.loop-c.c.calls c.loop-c.c.used

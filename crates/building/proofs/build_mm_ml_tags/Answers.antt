@@ -1,0 +1,70 @@
+-- `build_mm_ml_tags` passes on a refusal, answers 12 if a row has no room, and otherwise stores the strand's tag.
+-- Assumes nothing.
+use mathlib.Core.Path.{◌∙◌, ap, refl, sym}
+use Prim.Native.Nat.{◌≤◌}
+use native.Mathlib.Omega.{arith}
+use mathlib.Core.Bool.{true}
+use lib.ListN.{length}
+use Rattle.building.proofs.Measured.{Measured, measured, not_built}
+use Rattle.lent.proofs.Filled.{over_stored}
+use Rattle.lent.specs.Filled.{leaves}
+use Rattle.lent.specs.Outcome.{done, tag_says}
+use Rattle.samtags.proofs.Room.{no_room_for_ml, no_room_for_text, room_for_both}
+use Rattle.samtags.specs.Building.{Evidence, build_tag, columns, own_tag}
+use Rattle.samtags.specs.Writing.{Tag}
+use Rattle.building.proofs.build_mm_ml_tags.Reads as reads
+use Rattle.building.proofs.build_mm_ml_tags.Lts as lts
+use Rattle.building.proofs.measure.Reads as measure-reads
+use Rattle.strand.proofs.put_tag.Reads as put-tag-reads
+use Rattle.building.proofs.build_mm_ml_tags.Goals as goal
+
+pub returns-in_default : goal.returns-in_default
+unfolding leaves
+returns-in_default c =
+    let ev : Evidence = columns c.args.informative.now c.args.unconverted.now c.args.converted.now in
+    let off = not_built c.args.methylation_mode c.args.pattern ev c.args.consensus_bases.now true (length c.args.mm.now) (length c.args.ml.now) c.in_default.field-0
+    (sym c.measure-asked.ensures ∙ ap tag_says c.in_default.is) in
+    rw (off, c.in_default.is) (refl, refl, refl)
+
+pub returns-then-mm-text_len : goal.returns-then-mm-text_len
+unfolding leaves build_tag
+returns-then-mm-text_len c =
+    let found : Measured c.args.methylation_mode c.args.pattern (columns c.args.informative.now c.args.unconverted.now c.args.converted.now) c.args.consensus_bases.now c.in-Done.text_len c.in-Done.calls = measured c.args.methylation_mode c.args.pattern (columns c.args.informative.now c.args.unconverted.now c.args.converted.now) c.args.consensus_bases.now
+    c.in-Done.text_len c.in-Done.calls (sym c.measure-asked.ensures ∙ ap tag_says c.in-Done.is) in
+    let f = found in
+    let ev : Evidence = columns c.args.informative.now c.args.unconverted.now c.args.converted.now in
+    let own : Tag = own_tag c.args.methylation_mode c.args.pattern ev c.args.consensus_bases.now in
+    rw (f.built, no_room_for_text (length c.args.mm.now) (length c.args.ml.now) own true (omega (arith, f.text))) (refl, refl, refl)
+
+pub returns-then-ml-calls : goal.returns-then-ml-calls
+unfolding leaves build_tag
+returns-then-ml-calls c =
+    let found : Measured c.args.methylation_mode c.args.pattern (columns c.args.informative.now c.args.unconverted.now c.args.converted.now) c.args.consensus_bases.now c.in-Done.text_len c.in-Done.calls = measured c.args.methylation_mode c.args.pattern (columns c.args.informative.now c.args.unconverted.now c.args.converted.now) c.args.consensus_bases.now
+    c.in-Done.text_len c.in-Done.calls (sym c.measure-asked.ensures ∙ ap tag_says c.in-Done.is) in
+    let f = found in
+    let ev : Evidence = columns c.args.informative.now c.args.unconverted.now c.args.converted.now in
+    let own : Tag = own_tag c.args.methylation_mode c.args.pattern ev c.args.consensus_bases.now in
+    rw (f.built, no_room_for_ml (length c.args.mm.now) (length c.args.ml.now) own (omega (arith, f.text)) (omega (arith, f.values))) (refl, refl, refl)
+
+pub put_tag-requires : goal.put_tag-requires
+put_tag-requires c =
+    let found : Measured c.args.methylation_mode c.args.pattern (columns c.args.informative.now c.args.unconverted.now c.args.converted.now) c.args.consensus_bases.now c.in-Done.text_len c.in-Done.calls = measured c.args.methylation_mode c.args.pattern (columns c.args.informative.now c.args.unconverted.now c.args.converted.now) c.args.consensus_bases.now
+    c.in-Done.text_len c.in-Done.calls (sym c.measure-asked.ensures ∙ ap tag_says c.in-Done.is) in
+    let f = found in
+    record { seq_len_bound = (f.lengths.short, f.lengths.inf, f.lengths.unc, f.lengths.con); calls_value = f.values }
+
+pub returns : goal.returns
+unfolding leaves build_tag
+returns c =
+    let found : Measured c.args.methylation_mode c.args.pattern (columns c.args.informative.now c.args.unconverted.now c.args.converted.now) c.args.consensus_bases.now c.in-Done.text_len c.in-Done.calls = measured c.args.methylation_mode c.args.pattern (columns c.args.informative.now c.args.unconverted.now c.args.converted.now) c.args.consensus_bases.now
+    c.in-Done.text_len c.in-Done.calls (sym c.measure-asked.ensures ∙ ap tag_says c.in-Done.is) in
+    let f = found in
+    let ev : Evidence = columns c.args.informative.now c.args.unconverted.now c.args.converted.now in
+    let own : Tag = own_tag c.args.methylation_mode c.args.pattern ev c.args.consensus_bases.now in
+    let t-fits : length own.text ≤ length c.args.mm.now = omega (arith, f.text) in
+    let m-fits : length own.ml ≤ length c.args.ml.now = omega (arith, f.values) in
+    rw (f.built, room_for_both (length c.args.mm.now) (length c.args.ml.now) own t-fits m-fits) (
+      (λ j. done (f.text j, f.values j)),
+      c.put_tag.ensures.0 ∙ over_stored own.text c.args.mm.now t-fits,
+      c.put_tag.ensures.1 ∙ over_stored own.ml c.args.ml.now m-fits,
+    )
