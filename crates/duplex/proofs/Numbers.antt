@@ -39,7 +39,7 @@ pub duplex_methylation_tags_numbers : (count : ℕ) (mode : MethylationMode) (ba
     → Duplexes count mode bases a b lent r left → Answers (1 ∷ 2 ∷ 12 ∷ 13 ∷ []) (duplex_says r)
 duplex_methylation_tags_numbers count mode bases a b lent r left d =
     let o = duplex_tags count mode bases a b (lengths_lent lent) in
-    rw d.0 (answers _ (on_done lengths_of o) refl (only_on_done _ lengths_of o (duplex_tags_only count mode bases a b (lengths_lent lent))))
+    rw d.0 (answers _ (on_done lengths_of o) refl (only_on_done duplex_numbers lengths_of o (duplex_tags_only count mode bases a b (lengths_lent lent))))
 
 -- ---- the set is not too large: worked inputs, whose numbers are 0 and then each of the set in order
 
