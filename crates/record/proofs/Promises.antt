@@ -48,20 +48,20 @@ module _ (bam out out' : List ℕ) (n : ℕ) (w : Bool) where
   pub mask_keeps_the_rest : (before : List ℕ) → MasksRecord bam before out (Done n w) out' → Kept bam (take n out') w
   mask_keeps_the_rest before h =
       let (r, m) = mask_made bam out out' n w before h in
-      let p = parse.mask-parses bam before (length out) r m.came in
+      let p = parse.mask_parses bam before (length out) r m.came in
       kept m (masked before (length out) m.came) p.whole (ap is_done p.parsed)
 
   pub drop_keeps_the_rest : (places : List ℕ) → DropsRecord bam places out (Done n w) out' → Kept bam (take n out') w
   drop_keeps_the_rest places h =
       let (r, m) = drop_made bam out out' n w places h in
-      let p = parse.drop-parses bam places (length out) r m.came in
+      let p = parse.drop_parses bam places (length out) r m.came in
       kept m (dropped places (length out) m.came) p.whole (ap is_done p.parsed)
 
   pub cut_keeps_the_rest : (before : List ℕ) (before-reverse : Bool) (start : WindowStart) → CutsRecord bam before before-reverse start out (Done n w) out'
       → Kept bam (take n out') w
   cut_keeps_the_rest before before-reverse start h =
       let (r, m) = cut_made bam out out' n w before before-reverse start h in
-      let p = parse.cut-parses bam before before-reverse (start_says start) (length out) r m.came in
+      let p = parse.cut_parses bam before before-reverse (start_says start) (length out) r m.came in
       kept m (cut before before-reverse (start_says start) (length out) m.came) p.whole (ap is_done p.parsed)
 
   -- ---- a tag that was edited: MM is a text, and stayed. The reader accepted it over SEQ as it was, and accepts what it became over SEQ as it is now; it lists
@@ -74,7 +74,7 @@ module _ (bam out out' : List ℕ) (n : ℕ) (w : Bool) where
         let (r, m) = drop_made bam out out' n w places h in
         let same = m.bytes in
         subst (λ (new : List ℕ). Rewritten (read_seq bam) bam new (without_calls_at (read_places bam places))) (sym same)
-        (says.drop-accepted bam places (length out) r m.came text (subst (λ (new : List ℕ). keeps MM bam new ≡ true) same stays) some-place)
+        (says.drop_accepted bam places (length out) r m.came text (subst (λ (new : List ℕ). keeps MM bam new ≡ true) same stays) some-place)
 
     pub mask_accepted : (before : List ℕ) → MasksRecord bam before out (Done n w) out' → same_bytes_of before (stored_seq bam) ≡ false
         → differs_by_n (turned_letters (is_reverse bam) before) (read_seq bam) ≡ true
@@ -83,7 +83,7 @@ module _ (bam out out' : List ℕ) (n : ℕ) (w : Bool) where
         let (r, m) = mask_made bam out out' n w before h in
         let same = m.bytes in
         subst (λ (new : List ℕ). Rewritten (turned_letters (is_reverse bam) before) bam new (unmasked_calls (read_seq bam))) (sym same)
-        (says.mask-accepted bam before (length out) r m.came text (subst (λ (new : List ℕ). keeps MM bam new ≡ true) same stays) differs only-n)
+        (says.mask_accepted bam before (length out) r m.came text (subst (λ (new : List ℕ). keeps MM bam new ≡ true) same stays) differs only-n)
 
     pub cut_accepted : (before : List ℕ) (before-reverse : Bool) (start : WindowStart) → CutsRecord bam before before-reverse start out (Done n w) out'
         → same_bytes_of (turned_letters before-reverse before) (read_seq bam) ≡ false
@@ -93,5 +93,5 @@ module _ (bam out out' : List ℕ) (n : ℕ) (w : Bool) where
         let (r, m) = cut_made bam out out' n w before before-reverse start h in
         let same = m.bytes in
         let (lo, begins, now) =
-        says.cut-accepted bam before before-reverse (start_says start) (length out) r m.came text (subst (λ (new : List ℕ). keeps MM bam new ≡ true) same stays) differs in
+        says.cut_accepted bam before before-reverse (start_says start) (length out) r m.came text (subst (λ (new : List ℕ). keeps MM bam new ≡ true) same stays) differs in
         (lo, begins, subst (λ (new : List ℕ). Rewritten (turned_letters before-reverse before) bam new (calls_held_in lo (read_seq bam))) (sym same) now)

@@ -111,7 +111,7 @@ mask_accepted bam before room r e text kept differs by_n =
     let old = turned_letters (is_reverse bam) before in
     let is = mask_is (is_reverse bam) (seq_length bam) (packed_seq bam) before (fields_in bam) differs (mm_tagged bam text) (not_removed made MM text kept (omega arith)) in
     let (ls, then) = mm_listed made (mask_edit old (read_seq bam)) (mask_tidy old (read_seq bam)) old (mask_reads old (read_seq bam)) 0 none (lengths_none 0) is text kept in
-    record { listed = ls; before = then; after = edited-lists.mask-lists bam before room r ls e kept then differs by_n }
+    record { listed = ls; before = then; after = edited-lists.mask_lists bam before room r ls e kept then differs by_n }
 
 -- A cut that changed SEQ kept MM, a text.
 pub cut_accepted : (bam before : List ℕ) (before-reverse : Bool) (start : Option ℕ) (room : ℕ) (r : Finished)
@@ -126,7 +126,7 @@ cut_accepted bam before before-reverse start room r e text kept differs =
     let (at, begins, is) = cut_is (is_reverse bam) n (packed_seq bam) before before-reverse start (fields_in bam) differs (mm_tagged bam text) (not_removed made MM text kept (omega arith)) in
     let (ls, then) = mm_listed made (cut_edit at old (read_seq bam)) (cut_tidy at old (read_seq bam)) old (cut_reads at old (read_seq bam)) 3
     (cond (eqb (length before) n) none (some n)) (λ b. lengths_some (eqb (length before) n) b n) is text kept in
-    let (lo, known, after) = edited-lists.cut-lists bam before before-reverse start room r ls e kept then differs in
+    let (lo, known, after) = edited-lists.cut_lists bam before before-reverse start room r ls e kept then differs in
     (lo, known, record { listed = ls; before = then; after = after })
 
 -- ---- am and bm, without ML

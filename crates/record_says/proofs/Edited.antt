@@ -34,7 +34,7 @@ pub mask_lists : (bam before : List ℕ) (room : ℕ) (r : Finished) (ls : List 
     → mask_record bam before room ≡ done r → keeps MM bam r.bytes ≡ true → ListsOver (turned_letters (is_reverse bam) before) bam ls
     → same_bytes_of before (stored_seq bam) ≡ false → differs_by_n (turned_letters (is_reverse bam) before) (read_seq bam) ≡ true
     → ListsOver (read_seq r.bytes) r.bytes (map (unmasked_calls (read_seq bam)) ls)
-mask_lists = listed.mask-lists
+mask_lists = listed.mask_lists
 
 -- After a cut that changed SEQ and kept MM, SEQ begins at a known place of SEQ before. The tag lists what it listed there, without the calls whose base is
 -- no longer in SEQ, and every other call is as many places nearer to the front as were cut off before it.
@@ -42,7 +42,7 @@ pub cut_lists : (bam before : List ℕ) (before-reverse : Bool) (start : Option 
     → cut_record bam before before-reverse start room ≡ done r → keeps MM bam r.bytes ≡ true → ListsOver (turned_letters before-reverse before) bam ls
     → same_bytes_of (turned_letters before-reverse before) (read_seq bam) ≡ false
     → (lo : ℕ) × (begins_at bam before before-reverse start ≡ some lo) × ListsOver (read_seq r.bytes) r.bytes (map (calls_held_in lo (read_seq bam)) ls)
-cut_lists = listed.cut-lists
+cut_lists = listed.cut_lists
 
 -- If SEQ is then the k bases from place a of SEQ before, unmasked and fewer than before, and the start is known to be there, the tag lists every call inside.
 pub clean_cut_lists : (bam before : List ℕ) (before-reverse : Bool) (start : Option ℕ) (room : ℕ) (r : Finished) (ls : List Listing)

@@ -84,7 +84,7 @@ module _ (ml? : Bool) (w : Rows) where
         seq_then = ap (λ (n : Memory). (held_in n).seq) r.0 ∙ m.seq_then;
         lists_then = ap (λ (n : Memory). lists ml? (held_in n).seq (held_in n).text (held_in n).ml) r.0 ∙ m.lists_then;
         answers_then = r.1 ∙ m.answers_then;
-        opens_then = ap (on_done counts_of) (ap (open_session ml?) r.0 ∙ memory.opens-again ml? (in_memory w) ls e (steps_of cs));
+        opens_then = ap (on_done counts_of) (ap (open_session ml?) r.0 ∙ memory.opens_again ml? (in_memory w) ls e (steps_of cs));
         refused_exactly = ap (map is_refusal) r.1 ∙ memory.refused_exactly ml? (in_memory w) ls e (steps_of cs);
       }
 
@@ -101,7 +101,7 @@ module _ (ml? : Bool) (w : Rows) where
 pub refused_changes_nothing : (ml? : Bool) (w : Rows) (c : Call) → Meets ml? w c → 0 < number_of (step_says c.answered) → left_by w c ≡ w
 refused_changes_nothing ml? w c e l =
     let f = follows ml? w c e in
-    same_rows (left_by w c) w (f.0 ∙ memory.refused-changes-nothing ml? c.asked (in_memory w) (omega (arith, l, f.1)))
+    same_rows (left_by w c) w (f.0 ∙ memory.refused_changes_nothing ml? c.asked (in_memory w) (omega (arith, l, f.1)))
 
 -- ---- the steps determine the session
 

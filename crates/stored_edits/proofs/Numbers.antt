@@ -63,14 +63,14 @@ module _ (reverse ml? : Bool) (mm ml text values : List ℕ) (r : Tagged) (text'
   unfolding mask_stored
   drop_masked_modifications_numbers n before k after =
       after_checks _ _ ml? (stated_in_domain ml? n mm ml && leb k 16000) (is_exact n before && is_exact k after) _ r text values text' values' refl refl refl
-      (plain.drop-masked-modifications-numbers ml? mm ml text values r text' values' (in_read reverse n before) (in_read reverse k after))
+      (plain.drop_masked_modifications_numbers ml? mm ml text values r text' values' (in_read reverse n before) (in_read reverse k after))
 
   pub drop_modifications_at_numbers : (n : ℕ) (packed places : List ℕ) → DropsStored reverse ml? n packed places mm ml text values r text' values'
       → Answers (1 ∷ 2 ∷ 3 ∷ 4 ∷ 5 ∷ 6 ∷ 7 ∷ 8 ∷ 9 ∷ 10 ∷ 12 ∷ []) (tag_says r)
   unfolding drop_stored
   drop_modifications_at_numbers n packed places =
       after_checks _ _ ml? (stated_in_domain ml? n mm ml) (is_exact n packed) _ r text values text' values' refl refl refl
-      (plain.drop-modifications-at-numbers ml? mm ml text values r text' values' (in_read reverse n packed) (places_in_read reverse n places))
+      (plain.drop_modifications_at_numbers ml? mm ml text values r text' values' (in_read reverse n packed) (places_in_read reverse n places))
 
   -- a start in read orientation as the plain call takes it
   start_as_given : (s : Option ℕ) (before after : List ℕ)
@@ -86,7 +86,7 @@ module _ (reverse ml? : Bool) (mm ml text values : List ℕ) (r : Tagged) (text'
   trim_clipped_modifications_numbers start n before k after =
       let s = start_in_read reverse n k (start_says start) in
       after_checks _ _ ml? (stated_in_domain ml? n mm ml && leb k 16000) (is_exact n before && is_exact k after) _ r text values text' values' refl refl refl
-      (λ e. plain.trim-clipped-modifications-numbers ml? mm ml text values r text' values' (window_at s) (in_read reverse n before) (in_read reverse k after)
+      (λ e. plain.trim_clipped_modifications_numbers ml? mm ml text values r text' values' (window_at s) (in_read reverse n before) (in_read reverse k after)
       (start_as_given s (in_read reverse n before) (in_read reverse k after) e))
 
 -- ---- the numbers with which each edit's definition can refuse: those of the plain edit, and 2
@@ -134,14 +134,14 @@ module _ (reverse : Bool) (mm ml text values : List ℕ) (r : Tagged) (text' val
   unfolding mask_stored
   drop_masked_modifications_numbers_without_ml n before k after =
       after_checks _ _ false (stated_in_domain false n mm ml && leb k 16000) (is_exact n before && is_exact k after) _ r text values text' values' refl refl refl
-      (plain.drop-masked-modifications-numbers-without-ml mm ml text values r text' values' (in_read reverse n before) (in_read reverse k after))
+      (plain.drop_masked_modifications_numbers_without_ml mm ml text values r text' values' (in_read reverse n before) (in_read reverse k after))
 
   pub drop_modifications_at_numbers_without_ml : (n : ℕ) (packed places : List ℕ) → DropsStored reverse false n packed places mm ml text values r text' values'
       → Answers (1 ∷ 2 ∷ 3 ∷ 4 ∷ 5 ∷ 6 ∷ 7 ∷ 10 ∷ 12 ∷ []) (tag_says r)
   unfolding drop_stored
   drop_modifications_at_numbers_without_ml n packed places =
       after_checks _ _ false (stated_in_domain false n mm ml) (is_exact n packed) _ r text values text' values' refl refl refl
-      (plain.drop-modifications-at-numbers-without-ml mm ml text values r text' values' (in_read reverse n packed) (places_in_read reverse n places))
+      (plain.drop_modifications_at_numbers_without_ml mm ml text values r text' values' (in_read reverse n packed) (places_in_read reverse n places))
 
   pub trim_clipped_modifications_numbers_without_ml : (start : WindowStart) (n : ℕ) (before : List ℕ) (k : ℕ) (after : List ℕ)
       → TrimsStored reverse false start n before k after mm ml text values r text' values'
@@ -150,7 +150,7 @@ module _ (reverse : Bool) (mm ml text values : List ℕ) (r : Tagged) (text' val
   trim_clipped_modifications_numbers_without_ml start n before k after =
       let s = start_in_read reverse n k (start_says start) in
       after_checks _ _ false (stated_in_domain false n mm ml && leb k 16000) (is_exact n before && is_exact k after) _ r text values text' values' refl refl refl
-      (λ e. plain.trim-clipped-modifications-numbers-without-ml mm ml text values r text' values' (window_at s) (in_read reverse n before) (in_read reverse k after)
+      (λ e. plain.trim_clipped_modifications_numbers_without_ml mm ml text values r text' values' (window_at s) (in_read reverse n before) (in_read reverse k after)
       (start_as_given reverse false mm ml text values r text' values' s (in_read reverse n before) (in_read reverse k after) e))
 
 -- ---- no set is too large: worked inputs of a reverse read, whose numbers are 0 and then each of the set in order

@@ -48,7 +48,7 @@ module _ (ml? : Bool) where
       → (held_in (in_memory (at_end w cs)) ≡ run ml? (steps_of cs) (held_in (in_memory w))) × (numbers_of cs ≡ answers ml? (steps_of cs) (held_in (in_memory w)))
   plain_runs cs w i k =
       let r = plain.chain_runs ml? cs w k in
-      let f = memory.run-follows ml? (steps_of cs) (in_memory w) i in
+      let f = memory.run_follows ml? (steps_of cs) (in_memory w) i in
       (ap held_in r.0 ∙ f.0, r.1 ∙ f.1)
 
 -- ---- a call of each
