@@ -2,6 +2,8 @@
 //
 // The names are those of the Rust code. No public function has a `requires`. Each contract is one proposition of specs/Contracts, over definitions of
 // `cigar` for the places and of specs/ for the reference. The check of `cigar` and the walk of `walking` do the work for the places.
+#![tactic(auto)]
+
 ghost use Rattle.std.specs.Prelude.{◌≡◌, ◌&&◌, ◌+◌};
 ghost use Rattle.alignment.specs.PublicContracts.{FindsPlaces, TellsCpg, FetchesBases};
 ghost use Rattle.alignment.specs.Reference.{holds_at, base_at};

@@ -1,5 +1,7 @@
 // The operations of an alignment: how much of the read and of the reference each kind takes, their sums, and the check of an alignment. A support
 // crate: its functions may have a `requires`; the public calls are in `alignment`.
+#![tactic(auto)]
+
 ghost use Rattle.std.specs.Prelude.{◌≡◌, true, ◌<◌, ◌^◌};
 ghost use Rattle.lent.specs.Lists.{every};
 ghost use Rattle.lent.specs.Outcome.{says};

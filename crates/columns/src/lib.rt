@@ -2,6 +2,8 @@
 // public calls are in `annotation`.
 //
 // marks: the column that says which positions are informative.
+#![tactic(auto)]
+
 ghost use Rattle.std.specs.Prelude.{◌≡◌, cond, ◌&&◌, ℕ, min, ◌≤◌, pos, length};
 ghost use Rattle.lent.specs.Filled.{over};
 ghost use Rattle.lent.specs.Lists.{tabulate};

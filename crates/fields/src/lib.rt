@@ -1,4 +1,6 @@
 // The fields of a text, and the checks of a text before it is read. A support crate: its functions may have a `requires`.
+#![tactic(auto)]
+
 ghost use Rattle.std.specs.Prelude.{◌≡◌, ◌≤◌, eqb, length, drop};
 ghost use Rattle.lent.specs.Lists.{every, last_or};
 ghost use Rattle.samtags.specs.Bytes.{semicolon, is_ascii};

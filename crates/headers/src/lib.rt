@@ -1,5 +1,7 @@
 // What a header says: its base, its codes, how many ML values a listed base takes, and whether an unlisted base is of unknown status. A support
 // crate: its functions may have a `requires`.
+#![tactic(auto)]
+
 ghost use Rattle.std.specs.Prelude.{◌≡◌, ◌≤◌, length};
 ghost use Rattle.lent.specs.Lists.{every};
 ghost use Rattle.samtags.specs.Bytes.{is_digit, is_mark};

@@ -3,13 +3,13 @@
 use mathlib.Core.Path.{◌≡◌, refl, sym, ap, ◌∙◌}
 use Prim.Native.Nat.{ℕ}
 use native.Mathlib.Omega.{arith}
-use mathlib.Core.Bool.{Bool, true, false, ◌||◌, or-true}
+use mathlib.Core.Bool.{Bool, true, false, or-true}
 use mathlib.Core.List.{List, [], ◌∷◌}
 use lib.Dec.{eqb}
 use Rattle.lent.specs.Answers.{Answers, is_done, refuses_only}
 use Rattle.lent.specs.Filled.{leaves}
 use Rattle.lent.specs.Lists.{among}
-use Rattle.lent.specs.Outcome.{Outcome, refused, done, need, on_done, and_then, with_first, number_of}
+use Rattle.lent.specs.Outcome.{Outcome, refused, done, need, on_done, and_then, with_first}
 
 module _ {A : Type 0} where
   pub only_need : (ns : List ℕ) (t : Bool) (n : ℕ) (o : Outcome A) → among ns n ≡ true → refuses_only ns o ≡ true → refuses_only ns (need t n o) ≡ true

@@ -2,6 +2,7 @@
 //
 // specs/Outcome.antt: the outcome of a call. specs/Filled.antt: a lent row after a call. specs/Lists.antt: tests over a list.
 // proofs/: their laws, one file per topic.
+#![tactic(auto)]
 
 ghost use Rattle.std.specs.Prelude.{◌≡◌};
 ghost use Rattle.lent.specs.Outcome.{tag_refusal};

@@ -1,5 +1,7 @@
 // The lines of `tagedit`'s input, their marks and their fields: each is a part of the caller's own text. `operands` reads the numbers that a line
 // lists; `printing` writes the lines of the output. A support crate: its functions may have a `requires`.
+#![tactic(auto)]
+
 ghost use Rattle.std.specs.Prelude.{◌≡◌, [], ◌∷◌, ◌≤◌, length, take, drop};
 ghost use Rattle.samtags.specs.Text.{up_to};
 ghost use Rattle.samtags.specs.Edits.{same_bytes_of};

@@ -1,4 +1,6 @@
 // The chemistry by number, for callers that have no enum. A support crate of the C library.
+#![tactic(auto)]
+
 ghost use Rattle.std.specs.Prelude.{◌≡◌};
 ghost use Rattle.modes.specs.Modes.{mode_of, mode_says};
 

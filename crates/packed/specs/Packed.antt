@@ -1,7 +1,7 @@
 -- Packed SEQ (SAM v1): two bases to a byte, the first of the two in the high half. A base is a code from 0 to 15, the place of its letter in
 -- `=ACMGRSVTWYHKDBN`. If the number of bases is odd, the low half of the last byte is spare: it is not read, and is written as 0.
 -- Assumes nothing.
-use Rattle.std.specs.Prelude.{ℕ, suc, ◌+◌, ◌-◌, ◌*◌, ◌/◌, ◌%◌, Bool, cond, List, [], ◌∷◌, map, reverse, length, get_or, eqb, ltb}
+use Rattle.std.specs.Prelude.{ℕ, suc, ◌+◌, ◌*◌, ◌/◌, ◌%◌, cond, List, [], ◌∷◌, map, reverse, length, get_or, eqb, ltb}
 use Rattle.lent.specs.Lists.{tabulate}
 use Rattle.samtags.specs.Bytes.{ascii}
 

@@ -2,6 +2,8 @@
 //
 // specs/Packed.antt says what packed SEQ is, specs/Stored.antt what a stored read is in read orientation, specs/Walks.antt the rule of each table. A
 // constant array is copied wherever it is named, so a walk takes a table once as a value.
+#![tactic(auto)]
+
 ghost use Rattle.packed.specs.Packed.{bits_reversed, code_of};
 ghost use Rattle.packed.specs.Walks.{TableOf, first_letter, first_low, second_high, second_letter, turned_first, turned_second};
 

@@ -1,5 +1,7 @@
 // The walks over packed SEQ, which look up in the tables of `packed`: a row is unpacked in read orientation, packed as the read is stored, or turned. A byte
 // that is turned is looked up whole. A support crate: its functions may have a `requires`; the public calls are in `stored`, `stored_edits` and `stored_session`.
+#![tactic(auto)]
+
 ghost use Rattle.std.specs.Prelude.{◌≡◌, ℕ, ◌+◌, ◌*◌, ◌%◌, ◌≤◌, ◌<◌, length, set};
 ghost use Rattle.lent.specs.Filled.{over};
 ghost use Rattle.lent.specs.Lists.{tabulate};

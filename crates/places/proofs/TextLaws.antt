@@ -17,7 +17,6 @@ use Rattle.lent.proofs.Tests.{by-test}
 use Rattle.lent.specs.Lists.{last_or}
 use Rattle.lent.specs.Outcome.{and_then, done, need, refusal, refuse, refused, with_first, Outcome}
 use Rattle.lent.specs.declared.Refusal.{Refusal}
-use Rattle.samtags.specs.Bytes.{comma}
 use Rattle.samtags.specs.Decimal.{is_number, value}
 use Rattle.samtags.specs.Reading.{denied_to, read_entry, read_group, read_groups, read_spots, values_if}
 use Rattle.samtags.specs.Spots.{bare, call, calls_in, holds, places_from, tracked}
@@ -25,7 +24,6 @@ use Rattle.samtags.specs.Text.{base_of, closed_by, led_by, up_to}
 use Rattle.fields.proofs.FieldLaws.{field_on, last_at}
 use Rattle.fields.specs.Fields.{field_of}
 use Rattle.places.specs.Walk.{entry_at, tracked_from}
-use types.Run.{hop}
 
 -- ---- fields
 

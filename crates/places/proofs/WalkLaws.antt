@@ -4,7 +4,7 @@ use mathlib.Core.Path.{◌≡◌, ◌∙◌, ap, sym, refl}
 use Prim.Native.Nat.{◌+◌, ◌-◌, ◌<◌, ◌≤◌, min, suc, ℕ}
 use native.Mathlib.Numerals.{add-one}
 use native.Mathlib.Omega.{arith}
-use mathlib.Core.Bool.{Bool, false, true}
+use mathlib.Core.Bool.{false, true}
 use mathlib.Core.List.{List, [], ◌∷◌, ◌++◌}
 use mathlib.Core.Option.{none, some}
 use lib.Dec.{leb}
@@ -18,7 +18,7 @@ use Rattle.lent.specs.Outcome.{need, refuse, with_first, done, refused}
 use Rattle.lent.specs.declared.Refusal.{Refusal}
 use Rattle.samtags.proofs.Places.{places_length}
 use Rattle.samtags.specs.Decimal.{is_number, value}
-use Rattle.samtags.specs.Spots.{holds, places_from}
+use Rattle.samtags.specs.Spots.{holds}
 use Rattle.strides.proofs.StrideLaws.{between_rest}
 use Rattle.strides.specs.Counts.{between}
 use Rattle.places.specs.Walk.{tracked_from, entry_at, first_of}

@@ -1,5 +1,7 @@
 // The walk over the bases that a group counts. An ordinal counts these bases, a place counts the bytes of SEQ; each has its own type. A support
 // crate: its functions may have a `requires`.
+#![tactic(auto)]
+
 ghost use Rattle.std.specs.Prelude.{◌≡◌, ◌≤◌, length, drop};
 ghost use Rattle.strides.specs.Counts.{between};
 ghost use Rattle.places.specs.Answers.{found_says, entry_says, entry_refusal};

@@ -2,6 +2,8 @@
 // else. A support crate: its functions may have a `requires`; the public calls are in `record`.
 //
 // Here: the head, and the walk over the fields. sizes: how many bytes a field takes.
+#![tactic(auto)]
+
 pub mod sizes;
 
 ghost use Rattle.std.specs.Prelude.{◌≡◌, cond, true, ℕ, ◌+◌, ◌≤◌, ◌<◌, eqb, length, drop, get_or, set};

@@ -1,5 +1,7 @@
 // Checks whether a call over columns or over reads is refused, before anything is written. Each check answers as its definition does, and its caller
 // passes a refusal on. A support crate: its functions may have a `requires`; the public calls are in `annotation`.
+#![tactic(auto)]
+
 ghost use Rattle.std.specs.Prelude.{◌≡◌, min, ◌≤◌, length};
 ghost use Rattle.lent.specs.Outcome.{says};
 ghost use Rattle.refusals.specs.Refusals.{columns_of, in_room, restorable, truncated, counts_in_room, annotated};

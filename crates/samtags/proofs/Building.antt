@@ -20,7 +20,6 @@ use Rattle.pattern.specs.declared.ConversionPattern.{ConversionPattern}
 use Rattle.pattern.specs.declared.ConversionPattern.TheVariants.{CToT, GToA}
 use Rattle.pattern.specs.declared.MethylationMode.{MethylationMode}
 use Rattle.samtags.specs.Bytes.{comma, semicolon}
-use Rattle.samtags.specs.Decimal.{digits}
 use Rattle.samtags.specs.Text.{base_of}
 use Rattle.lent.specs.Outcome.{done, need}
 use Rattle.samtags.specs.Spots.{Spot, bare, call, place_of, values_of, Group, Call, Listing, calls_in, listing, holds, places_from, tracked}

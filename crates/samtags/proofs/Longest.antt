@@ -1,21 +1,20 @@
 -- The longest tag: every base is listed, so every skip is 0 and each entry takes two bytes. This tag reaches the bound on a built tag exactly.
 -- Assumes nothing.
-use mathlib.Core.Path.{◌≡◌, refl, sym, ap, ◌∙◌}
-use Prim.Native.Nat.{ℕ, zero, suc, ◌+◌, ◌*◌, ◌<◌, ◌≤◌}
+use mathlib.Core.Path.{◌≡◌, refl, ap, ◌∙◌}
+use Prim.Native.Nat.{ℕ, zero, suc, ◌+◌, ◌*◌, ◌<◌}
 use native.Mathlib.Omega.{arith}
-use mathlib.Core.Bool.{Bool, true, false}
+use mathlib.Core.Bool.{Bool, true}
 use mathlib.Core.List.{List, [], ◌∷◌, ◌++◌, map, append-nil}
-use mathlib.Core.Option.{Option, none, some}
-use lib.ListN.{length, get_or, length-append, replicate, get_or-replicate}
+use mathlib.Core.Option.{Option, some}
+use lib.ListN.{length, length-append, replicate, get_or-replicate}
 use Rattle.lent.specs.Lists.{concat_map}
 use Rattle.pattern.specs.Case.{upper, same_in_any_case}
 use Rattle.pattern.specs.Patterns.{is_enabled}
-use Rattle.pattern.specs.declared.ConversionPattern.{ConversionPattern}
-use Rattle.pattern.specs.declared.ConversionPattern.TheVariants.{CToT, GToA}
+use Rattle.pattern.specs.declared.ConversionPattern.TheVariants.{CToT}
 use Rattle.pattern.specs.declared.MethylationMode.{MethylationMode}
 use Rattle.samtags.specs.Bytes.{semicolon}
 use Rattle.samtags.specs.Decimal.{digits}
-use Rattle.samtags.specs.Spots.{Spot, bare, call, values_of, places_from}
+use Rattle.samtags.specs.Spots.{values_of, places_from}
 use Rattle.samtags.specs.Writing.{skips_from, entries_text, group_text, text_of, ml_of, written}
 use Rattle.samtags.specs.Building.{Evidence, columns, ml_value, numerator, called, called_at, spot_at, header_of, strand_group, Strand, joined_tag, own_tag}
 use Rattle.samtags.proofs.OwnTag.{own_called, some_values, joined_text, joined_ml}

@@ -10,7 +10,6 @@ use mathlib.Core.Option.{Option, none, some}
 use lib.Dec.{eqb}
 use lib.ListN.{length}
 use borrow.Author.Tests.{ne_eqb}
-use borrow.Table.Elements.{at}
 use Rattle.lent.proofs.Tests.{by-test}
 use Rattle.lent.specs.Lists.{concat_map, filter, is_empty}
 use Rattle.pattern.specs.Case.{same_in_any_case}

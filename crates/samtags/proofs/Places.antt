@@ -65,7 +65,7 @@ places_take t (suc n) i [] = refl
 places_take t (suc n) i (x ∷ xs) =
     let next : i + suc n ≡ suc i + n = omega arith in
     let rest : filter (λ p. ltb p (i + suc n)) (places_from t (suc i) xs) ≡ places_from t (suc i) (take n xs) =
-        subst (λ (m : ℕ). filter (λ p. ltb p m) (places_from t (suc i) xs) ≡ places_from t (suc i) (take n xs)) (sym next) (places_take t n (suc i) xs) in
+    subst (λ (m : ℕ). filter (λ p. ltb p m) (places_from t (suc i) xs) ≡ places_from t (suc i) (take n xs)) (sym next) (places_take t n (suc i) xs) in
     by-test (t x)
     (λ e. rw (e, lt-ltb i (i + suc n) (omega arith)) (ap (λ (r : List ℕ). i ∷ r) rest))
     (λ e. rw e rest)

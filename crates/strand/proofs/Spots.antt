@@ -9,7 +9,6 @@ use mathlib.Core.List.{List, [], ◌++◌, ◌∷◌, append-nil}
 use mathlib.Core.Option.{Option, none, some}
 use lib.ListN.{drop_of_length-le, get_or, length, length-append, length-map}
 use lib.Seq.{sets}
-use borrow.Table.Elements.{at}
 use Rattle.lent.proofs.Lists.{concat_map_append, drop_here}
 use Rattle.lent.proofs.Stores.{sets_append}
 use Rattle.lent.proofs.Tests.{by-test}
@@ -26,7 +25,6 @@ use Rattle.samtags.specs.Spots.{Spot, bare, call, places_from, values_of}
 use Rattle.samtags.specs.Writing.{entries_text, group_text, ml_of, skips_from, text_of, written}
 use Rattle.strand.specs.Walk.{called_says, spots_at, spots_from}
 use Rattle.strand.specs.declared.Called.{Called}
-use denote.Index.{row}
 
 module _ (mode : MethylationMode) (p : ConversionPattern) (ev : Evidence) (seq : List ℕ) where
   pub spots_on : (i : ℕ) → i < length seq → spots_from mode p ev seq i ≡ spots_at mode p ev seq i ++ spots_from mode p ev seq (i + 1)

@@ -1,7 +1,7 @@
 -- The spots that places of SEQ give to a strand's group, and the meaning of the code's answers. These are contracts of support functions; no promise
 -- rests on them.
 -- Assumes nothing.
-use Rattle.std.specs.Prelude.{ℕ, suc, Bool, true, false, cond, List, [], ◌∷◌, map, get_or, drop}
+use Rattle.std.specs.Prelude.{ℕ, cond, List, [], ◌∷◌, map, get_or, drop}
 use Rattle.std.proofs.Math.Option.{Option, none, some}
 use Rattle.pattern.specs.Case.{same_in_any_case}
 use Rattle.pattern.specs.Patterns.{letter_of}

@@ -2,6 +2,8 @@
 // have a `requires`; the public calls are in `building` and `duplex`.
 //
 // Rows are written as far as they reach. So the same walk measures over empty rows, and writes into the caller's rows once the tag is known to fit.
+#![tactic(auto)]
+
 ghost use Rattle.std.specs.Prelude.{◌≡◌, [], ◌∷◌, ◌+◌, ◌*◌, ◌≤◌, ◌<◌, length};
 ghost use Rattle.std.proofs.lemmas.List.Edits.{sets};
 ghost use Rattle.lent.specs.Lists.{concat_map};

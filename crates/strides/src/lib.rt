@@ -1,5 +1,7 @@
 // Passes whole blocks of SEQ at a time. A group's entry says how many bases of a letter to pass. A block with no more of them than are left to pass
 // is passed by its counts alone, which takes the processor about one step for each base. A support crate: its functions may have a `requires`.
+#![tactic(auto)]
+
 ghost use Rattle.std.specs.Prelude.{◌≡◌, ◌+◌, ◌-◌, ◌≤◌, false, true, length, take, drop};
 ghost use Rattle.lent.specs.Lists.{filter};
 ghost use Rattle.samtags.specs.Spots.{holds, tracked};

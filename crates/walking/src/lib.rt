@@ -1,5 +1,7 @@
 // The walk over an alignment's operations, forward or backward. It writes each base's place into a lent row. A support crate: its functions may have
 // a `requires` (room, and places that an i64 holds); the public calls are in `alignment`.
+#![tactic(auto)]
+
 ghost use Rattle.std.specs.Prelude.{◌≡◌, ◌+◌, ◌<◌, ◌≤◌, ◌^◌, length, get_or, replicate};
 ghost use Rattle.lent.specs.Filled.{over};
 ghost use Rattle.cigar.specs.Cigar.{bases_taken, places_taken, query_length, reference_span, missing, placed};

@@ -1,5 +1,7 @@
 // Compares SEQ after an edit with SEQ before it: whether they are the same, and whether the edited SEQ is a window of the old one. A support crate:
 // its functions may have a `requires`.
+#![tactic(auto)]
+
 ghost use Rattle.std.specs.Prelude.{◌≡◌, ◌+◌, ◌≤◌, ◌&&◌, ◌||◌, leb, eqb, length, take, drop};
 ghost use Rattle.samtags.specs.Edits.{same_bytes_of, is_masked, lies_in};
 ghost use Rattle.strides.specs.Counts.{Told};

@@ -1,6 +1,6 @@
 use mathlib.Core.Path.{◌≡◌, refl, sym, ◌∙◌}
 use mathlib.Core.List.{List, map}
-use Prim.Native.Nat.{ℕ, ◌-◌}
+use Prim.Native.Nat.{ℕ}
 use native.Mathlib.Omega.{arith}
 use lib.ListN.{length, get_or, take, length-set, length-map}
 use lib.Seq.{take_all, length-take-le}
@@ -10,7 +10,6 @@ use mir.Val.{SFits}
 use mir.Facts.{to_z-of_z}
 use borrow.Author.Tests.{le-leb, lt-leb}
 use Rattle.lent.specs.Outcome.{refusal}
-use Rattle.lent.specs.Filled.{over}
 use Rattle.lent.proofs.Lists.{map_more}
 use Rattle.lent.proofs.Filled.{over_none, over_one_more, leaves_done, leaves_refused}
 use Rattle.alignment.specs.Reference.{base_at}

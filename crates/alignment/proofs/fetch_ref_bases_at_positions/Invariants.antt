@@ -4,7 +4,6 @@ use mathlib.Core.Path.{◌≡◌}
 use mathlib.Core.List.{map}
 use Prim.Native.Nat.{◌-◌, ◌≤◌}
 use lib.ListN.{length, take}
-use lib.IntN.{pos}
 use Rattle.lent.specs.Filled.{over}
 use Rattle.alignment.specs.Reference.{base_at}
 use Rattle.alignment.proofs.fetch_ref_bases_at_positions.Given as goal

@@ -1,7 +1,5 @@
 use mathlib.Core.Path.{refl, sym, ◌∙◌}
-use Prim.Native.Nat.{◌-◌}
 use native.Mathlib.Omega.{arith}
-use Rattle.lent.specs.Lists.{every}
 use Rattle.lent.proofs.Lists.{every_end, every_on, every_stop}
 use Rattle.cigar.specs.Cigar.{is_known}
 use Rattle.cigar.proofs.all_known.Goals as goal

@@ -1,7 +1,7 @@
 use mathlib.Core.Path.{◌≡◌}
-use Prim.Native.Nat.{◌+◌, ◌-◌}
+use Prim.Native.Nat.{◌+◌}
 use native.Mathlib.Omega.{arith}
-use lib.ListN.{length, drop}
+use lib.ListN.{drop}
 use Rattle.cigar.specs.Cigar.{bases_taken, query_length}
 use Rattle.cigar.proofs.Totals.{total_step, total_end}
 use Rattle.cigar.proofs.query_length.Goals as goal

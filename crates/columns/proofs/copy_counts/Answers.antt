@@ -1,10 +1,8 @@
 use mathlib.Core.Path.{◌≡◌, refl}
-use Prim.Native.Nat.{◌-◌}
 use native.Mathlib.Numerals.{add-one}
 use native.Mathlib.Omega.{arith}
 use lib.ListN.{length, get_or, take, length-set}
 use lib.Seq.{take_all, take-suc, length-take-le}
-use Rattle.lent.specs.Filled.{over}
 use Rattle.lent.proofs.Filled.{over_none, over_one_more}
 use Rattle.columns.proofs.copy_counts.Goals as goal
 

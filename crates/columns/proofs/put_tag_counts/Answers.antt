@@ -1,14 +1,10 @@
 use mathlib.Core.Path.{◌≡◌, refl}
-use mathlib.Core.List.{map}
-use Prim.Native.Nat.{◌-◌}
 use native.Mathlib.Omega.{arith}
-use lib.IntN.{pos}
-use lib.ListN.{length, get_or, take, length-set}
+use lib.ListN.{get_or, length-set}
 use lib.Seq.{take_all}
 use mir.Syntax.{w16}
 use mir.Val.{to_z, of_z}
 use mir.Facts.{to_z_pos}
-use Rattle.lent.specs.Filled.{over}
 use Rattle.lent.proofs.Filled.{over_none}
 use Rattle.lent.proofs.Tabulate.{over_map_more}
 use Rattle.columns.proofs.put_tag_counts.Goals as goal

@@ -19,10 +19,10 @@ loop-i-preserved c =
     let l = c.args.text.now in
     let more = every_more is_ascii l h.i 0 (omega arith) in
     elim c.if-text-i-gt127.branch [
-      then-text-i-gt127 w ↦
-        rw w.ascii-is (omega arith, sym (more ∙ rw (lt-leb (get_or l h.i 0) 127 (omega arith)) (and-false (every is_ascii (take h.i l)))))
-    | else-text-i-gt127 w ↦
-        rw w.ascii-is (omega arith, h.invariant.1 ∙ sym (more ∙ rw (le-leb (get_or l h.i 0) 127 (omega arith)) (and-true (every is_ascii (take h.i l)))))
+      | then-text-i-gt127 w ↦
+          rw w.ascii-is (omega arith, sym (more ∙ rw (lt-leb (get_or l h.i 0) 127 (omega arith)) (and-false (every is_ascii (take h.i l)))))
+      | else-text-i-gt127 w ↦
+          rw w.ascii-is (omega arith, h.invariant.1 ∙ sym (more ∙ rw (le-leb (get_or l h.i 0) 127 (omega arith)) (and-true (every is_ascii (take h.i l)))))
     ]
 
 pub returns : goal.returns

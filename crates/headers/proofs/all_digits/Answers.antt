@@ -1,8 +1,6 @@
 use mathlib.Core.Path.{◌∙◌, refl, sym}
-use Prim.Native.Nat.{◌-◌}
 use native.Mathlib.Omega.{arith}
 use Rattle.lent.proofs.Lists.{every_end, every_on, every_stop}
-use Rattle.lent.specs.Lists.{every}
 use Rattle.samtags.specs.Bytes.{is_digit}
 use Rattle.headers.proofs.all_digits.Goals as goal
 

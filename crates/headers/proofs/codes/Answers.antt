@@ -1,7 +1,7 @@
 use mathlib.Core.Path.{◌∙◌, ap, sym}
 use Prim.Native.Nat.{◌-◌}
 use native.Mathlib.Omega.{arith}
-use lib.ListN.{drop, length, length-drop, take}
+use lib.ListN.{drop, length, length-drop}
 use lib.Seq.{take_all}
 use Rattle.samtags.specs.Text.{codes_of, without_marks}
 use Rattle.headers.proofs.HeaderLaws.{part_code, part_mark, part_none}

@@ -1,7 +1,6 @@
 use Prim.Native.Nat.{◌-◌}
 use native.Mathlib.Omega.{arith}
 use lib.ListN.{drop}
-use Rattle.samtags.specs.Text.{up_to}
 use Rattle.lines.proofs.UpToLaws.{up_to_end, up_to_on, up_to_part, up_to_stop}
 use Rattle.lines.proofs.up_to.Goals as goal
 

@@ -4,7 +4,6 @@ use native.Mathlib.Omega.{arith}
 use mathlib.Core.Bool.{true}
 use lib.ListN.{drop, get_or}
 use Rattle.lent.proofs.Lists.{every_end, every_on, every_stop}
-use Rattle.lent.specs.Lists.{every}
 use Rattle.samtags.specs.Bytes.{is_digit}
 use Rattle.samtags.specs.Decimal.{is_number, value}
 use Rattle.numbers.proofs.SkipLaws.{bounded, digit_high, digit_is, digit_low, no_number, number_is, value_end, value_on}

@@ -2,7 +2,7 @@ use mathlib.Core.Path.{◌∙◌, ◌≡◌, ap, refl, sym}
 use Prim.Native.Nat.{◌-◌, ℕ}
 use native.Mathlib.Omega.{arith}
 use mathlib.Core.List.{List}
-use lib.ListN.{length, length-set}
+use lib.ListN.{length-set}
 use Rattle.lent.proofs.Filled.{over_none}
 use Rattle.lent.specs.Filled.{over}
 use Rattle.lent.specs.Lists.{tabulate}

@@ -1,7 +1,6 @@
 use mathlib.Core.Path.{◌∙◌, ◌≡◌, ap, refl, sym}
 use Prim.Native.Nat.{◌+◌, ◌-◌}
 use native.Mathlib.Omega.{arith}
-use mathlib.Core.Logic.{⊎_elim}
 use lib.ListN.{drop}
 use Rattle.places.proofs.WalkLaws.{behind_passed, found_at, found_end, found_miss, found_on}
 use Rattle.places.specs.Walk.{first_of, tracked_from}
@@ -29,13 +28,13 @@ loop-pos-preserved c =
     let i = h.pos.0 in
     let n = a.skip.0 - h.ordinal.0 in
     elim c.if-hit.branch [
-      then-hit+else-ordinal-skip w ↦ rw w.ordinal-is (
+      | then-hit+else-ordinal-skip w ↦ rw w.ordinal-is (
         omega arith,
         omega (arith, w.if-ordinal-skip.false),
         h.invariant.2 ∙ found_on a.base a.seq.now i n (a.skip.0 - (h.ordinal.0 + 1)) (omega arith)
             (sym c.counts-hit.ensures ∙ w.if-hit.true) (omega (arith, w.if-ordinal-skip.false)),
       )
-    | else-hit w ↦ rw w.ordinal-is (
+      | else-hit w ↦ rw w.ordinal-is (
         omega arith,
         omega arith,
         h.invariant.2 ∙ found_miss a.base a.seq.now i n (omega arith)

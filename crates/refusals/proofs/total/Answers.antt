@@ -1,7 +1,4 @@
-use Prim.Native.Nat.{◌-◌}
 use native.Mathlib.Omega.{arith}
-use lib.ListN.{length}
-use Rattle.lent.specs.Lists.{sum}
 use Rattle.refusals.proofs.Sum.{sum_turn, sum_end}
 use Rattle.refusals.proofs.total.Goals as goal
 

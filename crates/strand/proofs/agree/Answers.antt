@@ -3,8 +3,6 @@
 use native.Mathlib.Omega.{arith}
 use lib.ListN.{length}
 use borrow.Author.Tests.{eq-eqb, ne_eqb}
-use Rattle.strand.proofs.agree.Reads as reads
-use Rattle.strand.proofs.agree.Lts as lts
 use Rattle.strand.proofs.agree.Goals as goal
 
 pub returns-then-informative-seq : goal.returns-then-informative-seq

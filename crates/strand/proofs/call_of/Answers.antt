@@ -5,11 +5,7 @@ use Prim.Native.Nat.{◌+◌, ℕ}
 use native.Mathlib.Omega.{arith}
 use mathlib.Core.Option.{some}
 use borrow.Author.Tests.{ne_eqb}
-use Rattle.samtags.specs.Building.{called, ml_value, numerator}
-use Rattle.strand.proofs.call_of.Reads as reads
-use Rattle.strand.proofs.call_of.Lts as lts
-use Rattle.strand.proofs.ml_value.Reads as ml-value-reads
-use Rattle.strand.proofs.numerator.Reads as numerator-reads
+use Rattle.samtags.specs.Building.{called, ml_value}
 use Rattle.strand.proofs.call_of.Goals as goal
 
 pub returns-then-informative-eq0 : goal.returns-then-informative-eq0

@@ -3,8 +3,6 @@
 use native.Mathlib.Omega.{arith}
 use lib.ListN.{length}
 use borrow.Author.Tests.{le-leb, lt-leb}
-use Rattle.strand.proofs.in_domain.Reads as reads
-use Rattle.strand.proofs.in_domain.Lts as lts
 use Rattle.strand.proofs.in_domain.Goals as goal
 
 pub returns-then-seq-gt-POSITIONS : goal.returns-then-seq-gt-POSITIONS

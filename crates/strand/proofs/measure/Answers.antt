@@ -10,10 +10,6 @@ use Rattle.pattern.specs.Patterns.{is_enabled}
 use Rattle.samtags.proofs.OwnTag.{no_values, own_called, own_disabled, own_silent, some_values}
 use Rattle.samtags.specs.Building.{Evidence, columns, strand_group}
 use Rattle.samtags.specs.Writing.{ml_of, text_of, written}
-use Rattle.strand.proofs.measure.Reads as reads
-use Rattle.strand.proofs.measure.Lts as lts
-use Rattle.pattern.proofs.MethylationMode.is_enabled.Reads as is-enabled-reads
-use Rattle.strand.proofs.put_group.Reads as put-group-reads
 use Rattle.strand.proofs.measure.Goals as goal
 
 pub returns-then-not-enabled : goal.returns-then-not-enabled

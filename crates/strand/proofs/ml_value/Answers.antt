@@ -3,8 +3,6 @@
 use Prim.Native.Nat.{◌*◌, ◌/◌, ◌<◌, ◌≤◌}
 use native.Mathlib.Omega.{arith}
 use Rattle.samtags.specs.Building.{ml_value}
-use Rattle.strand.proofs.ml_value.Reads as reads
-use Rattle.strand.proofs.ml_value.Lts as lts
 use Rattle.strand.proofs.ml_value.Goals as goal
 
 pub returns-then-scaled-gt255 : goal.returns-then-scaled-gt255

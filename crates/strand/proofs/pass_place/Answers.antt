@@ -6,19 +6,12 @@ use native.Mathlib.Omega.{arith}
 use mathlib.Core.Bool.{false, true}
 use mathlib.Core.Option.{none, some}
 use lib.ListN.{get_or}
-use borrow.Table.Elements.{at}
 use Rattle.pattern.proofs.Cases.{same_sym}
 use Rattle.pattern.specs.Case.{same_in_any_case}
 use Rattle.pattern.specs.Patterns.{letter_of}
 use Rattle.samtags.specs.Building.{Evidence, called_at, columns}
 use Rattle.strand.proofs.Spots.{bare_there, call_there, found_there, untracked}
 use Rattle.strand.specs.Walk.{called_says}
-use Rattle.strand.proofs.pass_place.Reads as reads
-use Rattle.strand.proofs.pass_place.Lts as lts
-use Rattle.pattern.proofs.ConversionPattern.letter.Reads as letter-reads
-use Rattle.pattern.proofs.eq_ignore_ascii_case.Reads as eq-ignore-ascii-case-reads
-use Rattle.strand.proofs.call_of.Reads as call-of-reads
-use Rattle.strand.proofs.put_entry.Reads as put-entry-reads
 use Rattle.strand.proofs.pass_place.Goals as goal
 
 pub returns-then-not-same : goal.returns-then-not-same

@@ -1,16 +1,12 @@
 use mathlib.Core.Path.{◌∙◌, ◌≡◌, refl, sym}
-use Prim.Native.Nat.{◌+◌, ◌-◌, ◌<◌}
+use Prim.Native.Nat.{◌+◌, ◌<◌}
 use native.Mathlib.Omega.{arith}
 use mathlib.Core.List.{[]}
 use lib.ListN.{length}
-use borrow.Table.Elements.{at}
 use Rattle.samtags.proofs.Skips.{entries_short}
 use Rattle.samtags.specs.Building.{Evidence, columns}
 use Rattle.strand.proofs.Spots.{one_spot, one_value, spots_end, text_turn, values_turn}
 use Rattle.strand.specs.Walk.{spots_at, spots_from}
-use Rattle.strand.proofs.put_entries.Reads as reads
-use Rattle.strand.proofs.put_entries.Lts as lts
-use Rattle.strand.proofs.pass_place.Reads as pass-place-reads
 use Rattle.strand.proofs.put_entries.Goals as goal
 use Rattle.strand.proofs.put_entries.Invariants.{entries_from, values_from}
 

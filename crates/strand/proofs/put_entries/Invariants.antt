@@ -5,7 +5,6 @@ use Prim.Native.Nat.{◌*◌, ◌+◌, ◌-◌, ◌≤◌, ℕ}
 use mathlib.Core.List.{List}
 use lib.ListN.{length}
 use lib.Seq.{sets}
-use borrow.Table.Elements.{at}
 use Rattle.lent.specs.Lists.{concat_map}
 use Rattle.pattern.specs.declared.ConversionPattern.{ConversionPattern}
 use Rattle.pattern.specs.declared.MethylationMode.{MethylationMode}
@@ -13,9 +12,6 @@ use Rattle.samtags.specs.Building.{columns}
 use Rattle.samtags.specs.Spots.{values_of}
 use Rattle.samtags.specs.Writing.{entries_text, skips_from}
 use Rattle.strand.specs.Walk.{spots_from}
-use Rattle.strand.proofs.put_entries.Reads as reads
-use Rattle.strand.proofs.put_entries.Lts as lts
-use Rattle.strand.proofs.pass_place.Reads as pass-place-reads
 use Rattle.strand.proofs.put_entries.Given as goal
 
 -- the entries' text and the values from a place on, where n bare bases wait before it

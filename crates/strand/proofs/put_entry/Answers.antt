@@ -8,10 +8,6 @@ use mathlib.Core.List.{append-nil}
 use lib.ListN.{length, set}
 use Rattle.samtags.specs.Bytes.{comma}
 use Rattle.samtags.specs.Decimal.{digits}
-use Rattle.strand.proofs.put_entry.Reads as reads
-use Rattle.strand.proofs.put_entry.Lts as lts
-use Rattle.numbers.proofs.put.Reads as put_reads
-use Rattle.numbers.proofs.put_decimal.Reads as put-decimal-reads
 use Rattle.strand.proofs.put_entry.Goals as goal
 
 pub returns : goal.returns

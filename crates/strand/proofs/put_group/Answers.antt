@@ -13,11 +13,6 @@ use Rattle.samtags.specs.Bytes.{semicolon}
 use Rattle.samtags.specs.Writing.{entries_text, skips_from}
 use Rattle.strand.proofs.Spots.{spots_few, strand_ml, strand_text}
 use Rattle.strand.specs.Walk.{spots_from}
-use Rattle.strand.proofs.put_group.Reads as reads
-use Rattle.strand.proofs.put_group.Lts as lts
-use Rattle.strand.proofs.put_entries.Reads as put-entries-reads
-use Rattle.strand.proofs.put_header.Reads as put-header-reads
-use Rattle.numbers.proofs.put.Reads as put_reads
 use Rattle.strand.proofs.put_group.Goals as goal
 use Rattle.strand.proofs.put_group.Goals.{After-slice_known-6-1}
 

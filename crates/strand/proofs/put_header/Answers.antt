@@ -5,11 +5,6 @@ use Prim.Native.Nat.{ℕ}
 use mathlib.Core.List.{List}
 use lib.ListN.{set}
 use Rattle.pattern.specs.Patterns.{letter_of, sign_of}
-use Rattle.strand.proofs.put_header.Reads as reads
-use Rattle.strand.proofs.put_header.Lts as lts
-use Rattle.pattern.proofs.ConversionPattern.letter.Reads as letter-reads
-use Rattle.pattern.proofs.ConversionPattern.sign.Reads as sign_reads
-use Rattle.numbers.proofs.put.Reads as put_reads
 use Rattle.strand.proofs.put_header.Goals as goal
 
 pub returns : goal.returns

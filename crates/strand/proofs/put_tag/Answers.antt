@@ -7,9 +7,6 @@ use lib.ListN.{length}
 use Rattle.samtags.proofs.OwnTag.{own_empty, own_full}
 use Rattle.samtags.specs.Building.{Evidence, columns, own_tag}
 use Rattle.samtags.specs.Writing.{ml_of, text_of, written}
-use Rattle.strand.proofs.put_tag.Reads as reads
-use Rattle.strand.proofs.put_tag.Lts as lts
-use Rattle.strand.proofs.put_group.Reads as put-group-reads
 use Rattle.strand.proofs.put_tag.Goals as goal
 
 pub returns-then-calls-ne0 : goal.returns-then-calls-ne0

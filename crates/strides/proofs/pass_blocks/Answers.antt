@@ -1,7 +1,6 @@
 use mathlib.Core.Path.{◌≡◌, ap, sym}
-use Prim.Native.Nat.{◌+◌, ◌-◌, ◌≤◌, ℕ}
+use Prim.Native.Nat.{◌+◌, ◌≤◌, ℕ}
 use native.Mathlib.Omega.{arith}
-use mathlib.Core.Bool.{false, true}
 use mathlib.Core.List.{List}
 use lib.ListN.{length, length-append}
 use Rattle.lent.proofs.Lists.{filter_length}
@@ -42,8 +41,7 @@ returns-then-skip-passed c = c.loop-window.invariant
 pub held_in_block-held-requires : goal.held_in_block-held-requires
 held_in_block-held-requires c =
     let block : c.loop-window.place + 32 ≤ length c.args.seq.now = (let far = c.is_far.ensures c.loop-window-test.true in
-    omega (arith, far)) in
-    (
+    omega (arith, far)) in (
       block,
       c.requires.2,
       c.requires.3,

@@ -1,8 +1,6 @@
 use mathlib.Core.Path.{◌≡◌, refl}
-use Prim.Native.Nat.{◌-◌}
 use native.Mathlib.Omega.{arith}
-use lib.ListN.{length, replicate, length-set, length-replicate}
-use Rattle.lent.specs.Filled.{over}
+use lib.ListN.{replicate, length-set, length-replicate}
 use Rattle.lent.proofs.Filled.{over_none, over_one_more}
 use Rattle.cigar.specs.Cigar.{missing}
 use Rattle.walking.proofs.Walks.{missing_more}

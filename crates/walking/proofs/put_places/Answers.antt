@@ -1,10 +1,9 @@
 use mathlib.Core.Path.{◌≡◌, refl}
-use Prim.Native.Nat.{◌+◌, ◌-◌}
+use Prim.Native.Nat.{◌+◌}
 use native.Mathlib.Omega.{arith}
-use lib.ListN.{length, length-set}
+use lib.ListN.{length-set}
 use mir.Syntax.{w64}
 use mir.Facts.{to_z-of_z}
-use Rattle.lent.specs.Filled.{over}
 use Rattle.lent.proofs.Filled.{over_none, over_one_more}
 use Rattle.walking.specs.Walk.{run, place_of}
 use Rattle.walking.proofs.Walks.{run_more, run_none, length_run, reaches_fewer}

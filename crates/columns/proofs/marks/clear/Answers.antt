@@ -1,5 +1,4 @@
 use mathlib.Core.Path.{◌≡◌, refl}
-use Prim.Native.Nat.{◌-◌}
 use native.Mathlib.Omega.{arith}
 use lib.ListN.{length, length-set}
 use Rattle.lent.proofs.Tabulate.{changed_turn, changed_is_tabulate}
@@ -10,12 +9,11 @@ pub loop-i-init : goal.loop-i-init
 loop-i-init c = (omega arith, refl, refl)
 
 pub loop-i-preserved : goal.loop-i-preserved
-loop-i-preserved c =
-    (
-      omega arith,
-      simp length-set (omega arith),
-      changed_turn zero_at 0 c.args.informative.now c.loop-i.informative c.loop-i.i 0 c.loop-i.invariant.2 (omega arith) refl,
-    )
+loop-i-preserved c = (
+  omega arith,
+  simp length-set (omega arith),
+  changed_turn zero_at 0 c.args.informative.now c.loop-i.informative c.loop-i.i 0 c.loop-i.invariant.2 (omega arith) refl,
+)
 
 pub returns : goal.returns
 returns c =

@@ -1,12 +1,8 @@
 use mathlib.Core.Path.{refl}
-use mathlib.Core.List.{map}
-use Prim.Native.Nat.{◌-◌}
 use native.Mathlib.Omega.{arith}
-use lib.ListN.{length, take, length-set}
+use lib.ListN.{length-set}
 use lib.Seq.{take_all}
-use Rattle.lent.specs.Filled.{over}
 use Rattle.lent.proofs.Filled.{over_none}
-use Rattle.columns.specs.Columns.{yes_byte}
 use Rattle.lent.proofs.Tabulate.{over_map_more}
 use Rattle.columns.proofs.marks.copy_marks.Goals as goal
 use Rattle.columns.proofs.marks.copy_marks.Invariants.{mark}

@@ -1,5 +1,4 @@
 use mathlib.Core.Path.{◌∙◌, refl}
-use Prim.Native.Nat.{◌-◌}
 use native.Mathlib.Omega.{arith}
 use Rattle.record_fields.proofs.SizeLaws.{text_end, text_on, text_stop}
 use Rattle.record_fields.proofs.sizes.text_size.Goals as goal
