@@ -67,7 +67,7 @@ def indent_of(line):
 
 def plain(name):
     """A name without the marks that escape it."""
-    return name[1:-1] if name.startswith("«") and name.endswith("»") and "_" not in name else name
+    return name[1:-1] if name.startswith("«") and name.endswith("»") and "◌" not in name else name
 
 
 # ---- files of specs/ and proofs/
@@ -89,8 +89,8 @@ class Source:
             self.add_parts(name)
 
     def add_parts(self, name):
-        if "_" in name and not name.startswith("«"):
-            for part in name.split("_"):
+        if "◌" in name and not name.startswith("«"):
+            for part in name.split("◌"):
                 if part:
                     self.parts[part].add(name)
 
@@ -308,14 +308,14 @@ def contract_of(crate, path):
 
 def meaning(module, name):
     """The definition that a module's name stands for; None if the name is the kit's."""
-    found = re.match(r"Rattle·(\w+)(?:·(?:specs|proofs))?\.(specs|proofs)\.(.+)$", module)
+    found = re.match(r"Rattle\.(\w+)\.(specs|proofs)\.(.+)$", module)
     if not found:
         return None
     crate, part, path = found[1], found[2], found[3].split(".")
     if not os.path.isdir(os.path.join(ROOT, "crates", crate)):
         return None
     if part == "specs" and path[0] == "declared":
-        return declared_type(crate, [one for one in path[1:] if one != "the-variants"])
+        return declared_type(crate, [one for one in path[1:] if one != "TheVariants"])
     file = os.path.join("crates", crate, part, *path) + ".antt"
     if os.path.exists(os.path.join(ROOT, file)):
         source = read_antt(file)
@@ -341,7 +341,7 @@ def resolve(source, name):
         if first in source.modules:
             module = source.modules[first] + ("." + below if below else "")
             return meaning(module, last) or ("kit", module, last)
-        if first.startswith("Rattle·"):
+        if first == "Rattle":
             return meaning(head, last) or ("kit", head, last)
         found = resolve(source, first)
         if isinstance(found, Item) and last in found.also:
@@ -558,7 +558,7 @@ def walk_contract(names, item):
     """Walks the types of a function's signature, and the antt of its contract."""
     text = item.statement[0]
     head = text.partition("(")[2]
-    bound = {found.replace("mut ", "") for found in re.findall(r"\b(\w+): ", text)} | {"self"}
+    bound = {found.replace("mut ", "") for found in re.findall(r"\b(\w+): ", text)} | {"self", "result"}
     bound |= {"«%s»" % one for one in bound}
     signature = re.split(r"\b(?:requires|ensures)\b", head)[0]
     for name in re.findall(r"\b[A-Z]\w*\b", signature):
@@ -566,7 +566,7 @@ def walk_contract(names, item):
             name = item.name.split(".")[0]
         if found := rust_type(names.source, name):
             names.found[found] = None
-    for piece in re.findall(r"\b(?:requires|ensures)\s*\{(.*?)\}\s*(?=requires|ensures|$)", text, re.S):
+    for piece in re.findall(r"\b(?:requires|ensures)(?:\s+\w+)?\s*\{(.*?)\}\s*(?=requires|ensures|$)", text, re.S):
         names.walk(tokens_of(" " + piece), set(bound))
 
 
@@ -637,7 +637,7 @@ def rests_on(starts, whole=False):
         uses[item] = [statement_of(one) if is_theorem(one) else one for one in found if isinstance(one, Item)] + list(item.enclosing)
         kit.update(one[1:] for one in found if not isinstance(one, Item))
         for module, name in kit:
-            if (crate := re.match(r"Rattle·(\w+)", module)) and crate[1] in crates():
+            if (crate := re.match(r"Rattle\.(\w+)", module)) and crate[1] in crates():
                 raise Lost("%s: %s names %s.%s, which is not found" % (item.path, item.name, module, name))
         unknown |= words
         todo += uses[item]
@@ -669,7 +669,7 @@ def ordered(uses):
 @functools.cache
 def crates():
     with open(os.path.join(ROOT, "crates.txt"), encoding="utf-8") as file:
-        return [line.split(":")[0].strip() for line in file if ":" in line and not line.startswith("#")]
+        return [line.split(":")[0].split()[0] for line in file if ":" in line and not line.startswith("#")]
 
 
 def order_of_crates(group):
@@ -689,7 +689,7 @@ def lines_of(items):
 
 
 def find(start):
-    """The items that FILE:NAME, CRATE:NAME or NAME stands for. FILE and NAME may have '*'; with a '*' in NAME only public items are found."""
+    """The items that FILE:NAME, CRATE:NAME or NAME stands for. FILE and NAME may have '*'; with a '*' in NAME only public theorems are found."""
     where, _, name = start.rpartition(":")
     pattern = re.compile("[^ ]*".join(map(re.escape, name.split("*"))) + "$")
     if where.endswith((".antt", ".rt")):
@@ -700,5 +700,6 @@ def find(start):
     found = []
     for path in files:
         source = read_rt(path) if path.endswith(".rt") else read_antt(path)
-        found += [item for item in dict.fromkeys(source.items.values()) if pattern.match(item.name) and (item.public or "*" not in name)]
+        items = [item for item in dict.fromkeys(source.items.values()) if pattern.match(item.name)]
+        found += [item for item in items if "*" not in name or item.public and item.kind == "plain"]
     return found

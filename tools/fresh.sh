@@ -2,6 +2,8 @@
 
 programs="$root/target/programs"
 proved_sources=("$root/crates" "$root/crates.txt" "$root/rt-version")
+# What rt makes in a crate's folder, and the edits, which are in no archive.
+not_proved=(-name must-fail -o -name out)
 are_proved=(-name '*.rt' -o -name '*.antt' -o -name crates.txt -o -name rt-version)
 
 # library NAME: sets what is known of a library, by the name that tools/build has for it: its `title`, its `crate` and its `archive`; and `others`, the folders of
@@ -20,7 +22,7 @@ library() {
 is_proved() {
     library "$1"
     [ -e "$archive" ] && [ -e "$proved" ] &&
-        [ -z "$(find "${proved_sources[@]}" \( -name must-fail "${others[@]}" \) -prune -o \( "${are_proved[@]}" \) -newer "$proved" -print -quit)" ]
+        [ -z "$(find "${proved_sources[@]}" \( "${not_proved[@]}" "${others[@]}" \) -prune -o \( "${are_proved[@]}" \) -newer "$proved" -print -quit)" ]
 }
 
 # sources_of NAME: sets `sources` to the headers of a program and the folders that hold its C files, and `libraries` to those that it is linked with.
@@ -41,7 +43,7 @@ is_fresh() {
     for name in "${libraries[@]}"; do
         library "$name"
         [ -e "$proved" ] && [ ! "$archive" -nt "$program" ] &&
-            [ -z "$(find "${proved_sources[@]}" "$root/tools/headers" "$root/tools/kit-cc" "${sources[@]}" \( -name must-fail "${others[@]}" \) -prune -o \
+            [ -z "$(find "${proved_sources[@]}" "$root/tools/headers" "$root/tools/kit-cc" "${sources[@]}" \( "${not_proved[@]}" "${others[@]}" \) -prune -o \
                 \( \( "${are_proved[@]}" \) -newer "$proved" -o \( -name '*.[ch]' -o -name kit-cc \) -newer "$program" \) -print -quit)" ] || return 1
     done
 }
