@@ -27,14 +27,14 @@ returns-in_default c =
     let outcome : Outcome Tag = (let h = held_in (before) in
     edited (masked_to c.args.after.now) c.args.has_ml h.seq h.text h.ml) in
     let tag_left : (x : Tagged) → c.edit_front-edited.result ≡ x → rewrote (tag_says x) c.edit_front-edited.new.mm c.edit_front-edited.new.ml ≡ leaves_tag c.args.has_ml (outcome) c.args.mm.now c.args.ml.now = λ x e. (let h = held_in (before) in
-    let long : length h.seq ≡ length c.args.after.now = omega (arith, c.requires.0.3, c.requires.1, length-take c.args.lengths.seq-1 c.args.seq.now) in
+    let long : length h.seq ≡ length c.args.after.now = omega (arith, c.requires.0.3, c.requires.1, length-take c.args.lengths.seq c.args.seq.now) in
     let made : rewrote (tag_says c.edit_front-edited.result) c.edit_front-edited.new.mm c.edit_front-edited.new.ml
-    ≡ leaves_tag c.args.has_ml (edited (window_edit 0 c.args.after.now []) c.args.has_ml (take (c.args.lengths.seq-1 - 0) c.args.seq.now) h.text h.ml) c.args.mm.now
+    ≡ leaves_tag c.args.has_ml (edited (window_edit 0 c.args.after.now []) c.args.has_ml (take (c.args.lengths.seq - 0) c.args.seq.now) h.text h.ml) c.args.mm.now
     c.args.ml.now = c.edit_front-edited.ensures in
     subst (λ (x : Tagged). rewrote (tag_says x) c.edit_front-edited.new.mm c.edit_front-edited.new.ml ≡ leaves_tag c.args.has_ml (outcome) c.args.mm.now c.args.ml.now) e
     (made
     ∙ ap (λ (n : ℕ). leaves_tag c.args.has_ml (edited (window_edit 0 c.args.after.now []) c.args.has_ml (take n c.args.seq.now) h.text h.ml) c.args.mm.now
-    c.args.ml.now) (sub-zero c.args.lengths.seq-1)
+    c.args.ml.now) (sub-zero c.args.lengths.seq)
     ∙ ap (λ (o : Outcome Tag). leaves_tag c.args.has_ml o c.args.mm.now c.args.ml.now)
     (sym (mask_is c.args.has_ml h.seq h.text h.ml c.args.after.now long)))) in
     ap (λ (r : Refusal). came (refused r) c.args.seq.now c.edit_front-edited.new.mm c.edit_front-edited.new.ml) (c.refusal.ensures ∙ ap tag_refusal c.in_default.is)
@@ -46,14 +46,14 @@ returns c =
     let outcome : Outcome Tag = (let h = held_in (before) in
     edited (masked_to c.args.after.now) c.args.has_ml h.seq h.text h.ml) in
     let tag_left : (x : Tagged) → c.edit_front-edited.result ≡ x → rewrote (tag_says x) c.edit_front-edited.new.mm c.edit_front-edited.new.ml ≡ leaves_tag c.args.has_ml (outcome) c.args.mm.now c.args.ml.now = λ x e. (let h = held_in (before) in
-    let long : length h.seq ≡ length c.args.after.now = omega (arith, c.requires.0.3, c.requires.1, length-take c.args.lengths.seq-1 c.args.seq.now) in
+    let long : length h.seq ≡ length c.args.after.now = omega (arith, c.requires.0.3, c.requires.1, length-take c.args.lengths.seq c.args.seq.now) in
     let made : rewrote (tag_says c.edit_front-edited.result) c.edit_front-edited.new.mm c.edit_front-edited.new.ml
-    ≡ leaves_tag c.args.has_ml (edited (window_edit 0 c.args.after.now []) c.args.has_ml (take (c.args.lengths.seq-1 - 0) c.args.seq.now) h.text h.ml) c.args.mm.now
+    ≡ leaves_tag c.args.has_ml (edited (window_edit 0 c.args.after.now []) c.args.has_ml (take (c.args.lengths.seq - 0) c.args.seq.now) h.text h.ml) c.args.mm.now
     c.args.ml.now = c.edit_front-edited.ensures in
     subst (λ (x : Tagged). rewrote (tag_says x) c.edit_front-edited.new.mm c.edit_front-edited.new.ml ≡ leaves_tag c.args.has_ml (outcome) c.args.mm.now c.args.ml.now) e
     (made
     ∙ ap (λ (n : ℕ). leaves_tag c.args.has_ml (edited (window_edit 0 c.args.after.now []) c.args.has_ml (take n c.args.seq.now) h.text h.ml) c.args.mm.now
-    c.args.ml.now) (sub-zero c.args.lengths.seq-1)
+    c.args.ml.now) (sub-zero c.args.lengths.seq)
     ∙ ap (λ (o : Outcome Tag). leaves_tag c.args.has_ml o c.args.mm.now c.args.ml.now)
     (sym (mask_is c.args.has_ml h.seq h.text h.ml c.args.after.now long)))) in
     let masked : c.put_all.new.out ≡ sets c.args.seq.now 0 c.args.after.now = c.put_all.ensures.1 in
