@@ -1,6 +1,6 @@
 // The reference places of a read's bases, and the reference bases there: port step 2.
 //
-// The names are those of the Rust code. No public function has a `requires`. Each contract is one proposition of specs/Contracts, over definitions of
+// The names are those of the Rust code. No public function has a `requires`. Each contract is one proposition of specs/PublicContracts, over definitions of
 // `cigar` for the places and of specs/ for the reference. The check of `cigar` and the walk of `walking` do the work for the places.
 #![tactic(auto)]
 

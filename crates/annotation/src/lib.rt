@@ -1,7 +1,7 @@
 // The methylation annotation of a consensus: counting from reads, gating, truncating, the counts as tags hold them, restoring SEQ. Port step 3.
 //
 // The names are those of the Rust code. Its vector of evidence is three lent columns here: informative (nonzero is yes, and yes is written as 1),
-// unconverted and converted. No function here has a `requires`. Each contract is one proposition of specs/Contracts, over definitions of the crates
+// unconverted and converted. No function here has a `requires`. Each contract is one proposition of specs/PublicContracts, over definitions of the crates
 // `refusals`, `columns` and `counting`. The functions of these crates check whether a call is refused and, if it is not, do the work.
 ghost use Rattle.annotation.specs.PublicContracts.{Annotates, Gates, Truncates, GivesCounts, Restores};
 

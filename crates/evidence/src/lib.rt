@@ -1,7 +1,7 @@
 // The evidence of one position, and gating a lent row of evidence records: the smallest part of port step 3.
 //
 // The names are those of the Rust code. Counting, gating and the other work on columns are in the crate `annotation`. No function here has a
-// `requires`. Each public call's contract is one proposition of specs/Contracts.
+// `requires`. Each public call's contract is one proposition of specs/PublicContracts.
 #![tactic(auto)]
 
 ghost use Rattle.std.specs.Prelude.{◌≡◌, ◌+◌};

@@ -1,6 +1,6 @@
 // The upper case of a byte, the conversion pattern of a read, and the chemistry: port step 1.
 //
-// The names are those of the Rust code. No function here has a `requires`. Each contract is one proposition of specs/Contracts.
+// The names are those of the Rust code. No function here has a `requires`. Each contract is one proposition of specs/PublicContracts.
 #![tactic(auto)]
 
 ghost use Rattle.pattern.specs.PublicContracts.{Uppercases, ComparesInAnyCase, FindsPattern, NamesBases, NamesLetter, NamesSign, TellsEnabled};

@@ -1,4 +1,4 @@
--- The contract that the kit makes of a public call's `ensures` gives the call's proposition of specs/Contracts. Theorems start from that proposition.
+-- The contract that the kit makes of a public call's `ensures` gives the call's proposition of specs/PublicContracts. Theorems start from that proposition.
 -- Assumes nothing.
 use Rattle.lent.proofs.Cited.{Gives}
 use Rattle.transcript.specs.PublicContracts.{Transcribes}
