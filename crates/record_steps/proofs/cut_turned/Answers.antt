@@ -39,7 +39,8 @@ returns-then-not-window c =
 pub edit_record-requires : goal.edit_record-requires
 edit_record-requires c =
     let few = (opened_inside c.args.bam.now (length c.args.old.now) c.args.ats.now c.args.sizes.now c.args.head c.requires.opened_as).letters_fit in
-    edit_needs c.args.bam.now (length c.args.old.now) c.args.ats.now c.args.sizes.now c.args.head c.requires.opened_as c.args.old.now few
+    let both = edit_needs c.args.bam.now (length c.args.old.now) c.args.ats.now c.args.sizes.now c.args.head c.requires.opened_as c.args.old.now few in
+    record { from_in_bounds = both.0; by_index = both.1 }
 
 pub returns : goal.returns
 returns c =

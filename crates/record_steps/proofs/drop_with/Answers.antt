@@ -28,8 +28,9 @@ edit_record-requires c =
     let h = c.args.head in
     let long = ap length (front) in
     let few = bases_short c.args.bam.now 0 c.args.ats.now c.args.sizes.now h c.requires.opened_as in
-    edit_needs c.args.bam.now 0 c.args.ats.now c.args.sizes.now h c.requires.opened_as (take (h.bases - 0) c.unpack_seq.new.row)
-    (omega (arith, few, long, length_in_read h.reverse h.bases (part c.args.bam.now h.seq_at (bytes_for h.bases))))
+    let both = edit_needs c.args.bam.now 0 c.args.ats.now c.args.sizes.now h c.requires.opened_as (take (h.bases - 0) c.unpack_seq.new.row)
+    (omega (arith, few, long, length_in_read h.reverse h.bases (part c.args.bam.now h.seq_at (bytes_for h.bases)))) in
+    record { from_in_bounds = both.0; by_index = both.1 }
 
 pub returns : goal.returns
 returns c =

@@ -51,9 +51,10 @@ edit_record-requires c =
     let first_front : take (length c.args.before.now - 0) c.turn_letters.new.row ≡ turned_letters c.args.head.reverse c.args.before.now = (letters_front c.args.head.reverse c.args.before.now c.turn_letters.new.row c.args.first.now (length c.args.before.now - 0) (omega arith) c.turn_letters.ensures) in
     let front = ap length (first_front) in
     let few = (opened_inside c.args.bam.now (length c.args.before.now) c.args.ats.now c.args.sizes.now c.args.head c.requires.opened_as).letters_fit in
-    edit_needs c.args.bam.now (length c.args.before.now) c.args.ats.now c.args.sizes.now c.args.head c.requires.opened_as
+    let both = edit_needs c.args.bam.now (length c.args.before.now) c.args.ats.now c.args.sizes.now c.args.head c.requires.opened_as
     (take (length c.args.before.now - 0) c.turn_letters.new.row)
-    (omega (arith, few, front, length_turned c.args.head.reverse c.args.before.now))
+    (omega (arith, few, front, length_turned c.args.head.reverse c.args.before.now)) in
+    record { from_in_bounds = both.0; by_index = both.1 }
 
 pub returns : goal.returns
 returns c =
