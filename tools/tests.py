@@ -120,7 +120,7 @@ class Proving(Tree):
         ended = self.proving("", "2")
         self.assertEqual(ended.returncode, 1)
         self.assertIn("what the compiler said\n", ended.stdout)
-        self.assertRegex(ended.stdout.split("\n")[-2], "^test: 2 must-fail edits are bad")
+        self.assertRegex(ended.stdout.split("\n")[-2], "^test: bad must-fail edits, as told above: 2")
 
 
 class Needs(Tree):
