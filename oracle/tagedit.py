@@ -27,6 +27,8 @@ LONGEST_INPUT = 65_536
 ROOT = os.path.join(os.path.dirname(os.path.abspath(__file__)), "..")
 FROZEN = os.path.join(ROOT, "oracle", "frozen")
 SEED, FROZEN_COUNT = 20_261, 2_400
+# The command, and the program of crates/tagedit, which `rt ci` builds.
+BUILT, PROVED = "target/programs/tagedit", "crates/tagedit/out/tagedit"
 is_numbers = re.compile(rb"[0-9]+(?:,[0-9]+)*").fullmatch
 
 
@@ -303,7 +305,7 @@ def start_of(program):
 def run(programs, seed, count):
     """Runs each program once for each input, as many runs at a time as there are processors."""
     subprocess.run([os.path.join(ROOT, "tools", "build"), "tagedit"], check=True)
-    commands, rng = [start_of(os.path.join(ROOT, "target", program)) for program in programs], random.Random(seed)
+    commands, rng = [start_of(os.path.join(ROOT, program)) for program in programs], random.Random(seed)
     kept = list(zip(frozen(INPUTS), frozen(OUTPUTS), strict=True))
     large, fresh = list(largest_inputs()), [random_input(rng) for _ in range(count)]
     pairs = kept + [(given, output(given)) for given in large + fresh]
@@ -330,7 +332,7 @@ def main():
     elif given.check:
         check()
     elif given.run:
-        run(["programs/tagedit", "bin/tagedit"] if given.proved else ["programs/tagedit"], given.seed, given.count)
+        run([BUILT, PROVED] if given.proved else [BUILT], given.seed, given.count)
     else:
         sys.stdout.buffer.write(output(sys.stdin.buffer.read()))
 

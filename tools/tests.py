@@ -20,13 +20,17 @@ NOT_IN_GIT = ("docs/src", "crates/NAME", "crates/fgumi-", "examples/NAME")
 RT_CI = """#!/bin/bash
 [ "$1" != doc ] || exec {rt} doc
 for crate in lent pattern; do
+    echo "== $crate"
+    echo "rt: note: src/lib.rt has no line #![tactic(auto)], which each crate begins with: rt tidy writes it"
     for k in $(seq 100); do echo "fn $crate::f$k: proved"; done
-    echo "rt: $crate proved (3 s)"
+    echo "rt: $crate proved"
+    echo "rt: $crate: trying its must-fail edits (1)"
 done
-[ -z "${{FAILS:-}}" ] || {{ echo "crates/cigar/src/lib.rt:9:1: error: what went wrong"; echo "rt: cigar NOT PROVED (exit 1, 2 s)"; }}
-[ -z "${{FAILS:-}}" ] || {{ echo "rt: must-fail lent/bad: BAD EDIT: it did not reach the prover (exit 2)"; echo "what the compiler said"; }}
-echo "rt: must-fail lent/rest_forgotten: refused, as it must be (first at proofs/Filled.antt:1:1; 4 s)"
-echo "rt: ok, 2 crates proved, 1 edit refused"
+[ -z "${{FAILS:-}}" ] || {{ echo "== cigar"; echo "./src/lib.rt:9:1: error: what went wrong"; echo "rt: cigar NOT PROVED"; }}
+[ -z "${{BAD:-}}" ] || {{ echo "rt: must-fail lent/bad.edit: BAD EDIT: it did not reach the prover; the first lines of what it said:"; echo "what the compiler said"; }}
+echo "rt: must-fail lent/rest_forgotten.edit: refused, as it must be: ./proofs/Filled.antt:1:1: error: it does not hold"
+if [ -n "${{FAILS:-}}" ]; then echo "rt: FAILED: cigar"; else
+    echo "rt: ok; handles allowed: none; must-fail edits: 1 refused${{BAD:+, $BAD bad}}; every proof and must-fail edit was done in this run"; fi
 echo "3 passed, ${{FAILS:-0}} failed"
 exit ${{FAILS:-0}}
 """
@@ -34,9 +38,10 @@ exit ${{FAILS:-0}}
 # Stands in for rt where libraries are built.
 RT_BUILDS = """#!/bin/bash
 case "$1" in doc | version) exec {rt} "$@" ;; esac
-[ "$1" != check ] || {{ echo check >>{noted}; exit; }}
-echo "$*" >>{noted}
-mkdir -p target/staticlib && cp {target}/staticlib/lib$2.a target/staticlib/
+[ "$1" != all ] || {{ echo all >>{noted}; exit; }}
+name="$(basename "$PWD")"
+echo "$* $name" >>{noted}
+mkdir -p out && cp {target}/staticlib/lib$name.a out/
 """
 
 
@@ -91,24 +96,31 @@ class Usage(unittest.TestCase):
 class Proving(Tree):
     """tools/proving, through which ./test runs `rt ci`."""
 
-    def proving(self, fails):
-        settings = {**self.stand_in("rt", RT_CI.format(rt=shutil.which("rt"))), "FAILS": fails}
+    def proving(self, fails, bad=""):
+        settings = {**self.stand_in("rt", RT_CI.format(rt=shutil.which("rt"))), "FAILS": fails, "BAD": bad}
         return run([os.path.join(ROOT, "tools", "proving"), "--lines", "test", "ci"], env=settings)
 
     def test_counts_and_prints_no_page(self):
         ended = self.proving("")
         lines = ended.stdout.split("\n")[:-1]
         self.assertEqual((ended.returncode, len(lines)), (0, 5), ended.stdout)
-        self.assertRegex(lines[1], r"^rt: pattern proved \(3 s\)  2 of \d+ crates, \d+ s$")
-        self.assertRegex(lines[2], r"^rt: must-fail lent/rest_forgotten: refused.*  1 of \d+ edits, \d+ s$")
+        self.assertRegex(lines[1], r"^rt: pattern proved  2 of \d+ crates, \d+ s$")
+        self.assertRegex(lines[2], r"^rt: must-fail lent/rest_forgotten\.edit: refused.*  1 of \d+ edits, \d+ s$")
         self.assertEqual(lines[-1], "3 passed, 0 failed")
 
     def test_shows_what_failed(self):
-        ended = self.proving("1")
+        ended = self.proving("1", "1")
         self.assertEqual(ended.returncode, 1)
-        self.assertIn("crates/cigar/src/lib.rt:9:1: error: what went wrong\nrt: cigar NOT PROVED (exit 1, 2 s)\n", ended.stdout)
-        self.assertIn("BAD EDIT: it did not reach the prover (exit 2)\nwhat the compiler said\n", ended.stdout)
+        self.assertIn("./src/lib.rt:9:1: error: what went wrong\nrt: cigar NOT PROVED\n", ended.stdout)
+        self.assertIn("BAD EDIT: it did not reach the prover; the first lines of what it said:\nwhat the compiler said\n", ended.stdout)
         self.assertNotIn("fn lent::f1", ended.stdout)
+
+    def test_fails_for_a_bad_edit(self):
+        """A bad edit shows nothing of a contract, though `rt ci` passes."""
+        ended = self.proving("", "2")
+        self.assertEqual(ended.returncode, 1)
+        self.assertIn("what the compiler said\n", ended.stdout)
+        self.assertRegex(ended.stdout.split("\n")[-2], "^test: bad must-fail edits, as told above: 2")
 
 
 class Needs(Tree):
@@ -183,7 +195,7 @@ class Packages(Tree):
             shutil.copytree(os.path.join(ROOT, part), os.path.join(self.tree, part), ignore=ignored)
         for part in ("crates.txt", "rt-version", "tagedit"):
             shutil.copy(os.path.join(ROOT, part), self.tree)
-        for crate in ("lent", "record_lib"):
+        for crate in ("lent", "taglib", "record_lib"):
             os.makedirs(os.path.join(self.tree, "crates", crate))
             self.touch(crate)
         self.settings = self.stand_in("rt", RT_BUILDS.format(rt=shutil.which("rt"), noted=self.noted, target=os.path.join(ROOT, "target")))
@@ -203,25 +215,25 @@ class Packages(Tree):
         return read(self.noted).split("\n")[:-1] if os.path.exists(self.noted) else []
 
     def test_one_call_proves_both(self):
-        self.assertEqual(self.asked("tools/build", "ask"), ["check", "staticlib taglib", "staticlib record_lib"])
+        self.assertEqual(self.asked("tools/build", "ask"), ["all", "lib taglib", "lib record_lib"])
         self.assertIn("build: proves the C library and the record layer and builds them, once", self.said)
         self.assertEqual(self.asked("tools/build", "exports", "tagedit", "records", "archive"), [])
         self.assertEqual(self.said, "")
         self.touch("lent")
-        self.assertEqual(self.asked("tools/build", "archive", "records"), ["check", "staticlib taglib", "staticlib record_lib"])
+        self.assertEqual(self.asked("tools/build", "archive", "records"), ["all", "lib taglib", "lib record_lib"])
 
     def test_first_is_built_alone(self):
         self.assertEqual(self.asked("./tagedit", "--version"), [])
-        self.assertEqual(self.asked("tools/build", "tagedit"), ["check", "staticlib taglib"])
+        self.assertEqual(self.asked("tools/build", "tagedit"), ["lib taglib"])
         self.assertIn("build: proves the C library and builds it, once", self.said)
-        self.assertEqual(self.asked("tools/build", "records"), ["check", "staticlib record_lib"])
+        self.assertEqual(self.asked("tools/build", "records"), ["lib record_lib"])
         self.touch("record_lib")
         os.utime(os.path.join(self.tree, "include", "aquiledru_record.h"))
         program = os.path.join(self.tree, "target", "programs", "tagedit")
         built = os.stat(program).st_mtime_ns
         self.assertEqual(self.asked("./tagedit", "--version"), [])
         self.assertEqual(os.stat(program).st_mtime_ns, built)
-        self.assertEqual(self.asked("tools/build", "ask"), ["check", "staticlib record_lib"])
+        self.assertEqual(self.asked("tools/build", "ask"), ["lib record_lib"])
 
 
 class Documents(unittest.TestCase):

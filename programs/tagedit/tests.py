@@ -27,7 +27,7 @@ EXAMPLE = os.path.join(ROOT, "examples", "mask_drop_cut.txt")
 SETTINGS = {name: value for name, value in os.environ.items() if name != "AQUILEDRU_LOCKED"}
 LONG = 65_537
 AT_ONCE = 50
-# What the launcher may take beside the program, in seconds. `rt doc` alone takes half of it, and `rt check` a second.
+# What the launcher may take beside the program, in seconds. `rt doc` alone takes more.
 MOST_BESIDE = 0.03
 
 STAND_IN = """#!/bin/bash
@@ -35,17 +35,18 @@ STAND_IN = """#!/bin/bash
 case "$1" in doc | version) echo "$1" >>"$CALLED/asked"; exec {rt} "$@" ;; esac
 mkdir "$CALLED/running" || echo "two at once" >>"$CALLED/twice"
 echo "$1" >>"$CALLED/calls"
-mkdir -p target/log
-echo proved >target/log/lent.res
-for crate in alignment counting fields strides numbers lines; do echo failed >target/log/$crate.res; done
+echo "rt: chose --jobs 2 for lent"
+echo "crate lent: modules loaded=0 checked=1"
+echo "logic=proved functions=1"
 sleep "${{TAKES:-0.5}}" &
 echo $! >"$CALLED/pid"
 wait
 rmdir "$CALLED/running"
 [ ! -e "$CALLED/broken" ] || {{ cat "$CALLED/broken"; exit 1; }}
-for built in bin/tagedit staticlib/libtaglib.a; do [ ! -e {target}/$built ] || {{ mkdir -p target/${{built%/*}} && cp {target}/$built target/$built; }}; done
+mkdir -p out
+cp {archive} out/
 """
-NOT_PROVED = "crates/lines: error: stands in for a failure\nrt: lines NOT PROVED (exit 1, 0 s)\n"
+NOT_PROVED = "./src/lib.rt:1:1: error: stands in for a failure\nlogic=not-proved\nrt: the library lines did not build, so nothing above it was checked\n"
 RT_DIES = "rt: crates.txt: the crates depend on each other in a cycle through lines\n"
 
 
@@ -66,8 +67,7 @@ def shell(line, **more):
 
 def program():
     """The words that start the built program itself, without the launcher."""
-    built = next(path for path in ("programs", "bin") if os.path.exists(os.path.join(ROOT, "target", path, "tagedit")))
-    shown = run([os.path.join(ROOT, "tools", "run-program"), "--show", os.path.join(ROOT, "target", built, "tagedit")])
+    shown = run([os.path.join(ROOT, "tools", "run-program"), "--show", os.path.join(ROOT, "target", "programs", "tagedit")])
     return shown.stdout.decode().split("\n")[:-1]
 
 
@@ -107,13 +107,14 @@ class Launcher(unittest.TestCase):
         self.folder = tempfile.mkdtemp()
         self.addCleanup(shutil.rmtree, self.folder)
         self.tree, self.called = os.path.join(self.folder, "a b'c", "tree"), os.path.join(self.folder, "called")
-        ignored = shutil.ignore_patterns("target", ".git", "oracle", "docs", "bench", "ask", ".lock", "must-fail", "__pycache__")
+        ignored = shutil.ignore_patterns("target", "out", ".git", "oracle", "docs", "bench", "ask", ".lock", "must-fail", "__pycache__")
         shutil.copytree(ROOT, self.tree, ignore=ignored, symlinks=True)
         bin_folder = os.path.join(self.folder, "bin")
         os.makedirs(bin_folder)
         os.makedirs(self.called)
         with open(os.path.join(bin_folder, "rt"), "w") as file:
-            file.write(STAND_IN.format(rt=shlex.quote(shutil.which("rt")), target=shlex.quote(os.path.join(ROOT, "target"))))
+            archive = os.path.join(ROOT, "target", "staticlib", "libtaglib.a")
+            file.write(STAND_IN.format(rt=shlex.quote(shutil.which("rt")), archive=shlex.quote(archive)))
         os.chmod(file.name, 0o755)
         self.settings = {**SETTINGS, "PATH": bin_folder + ":" + os.environ["PATH"], "CALLED": self.called}
         self.command = os.path.join(self.tree, "tagedit")
@@ -139,7 +140,7 @@ class Launcher(unittest.TestCase):
     def test_fifty_cold_at_once(self):
         runs = at_once([self.command], read(EXAMPLE), env=self.settings)
         self.assertEqual(self.noted("twice"), [])
-        self.assertEqual(self.calls(), [b"check", b"staticlib"])
+        self.assertEqual(self.calls(), [b"lib"])
         self.right(runs)
 
     def test_warm_without_rt(self):
@@ -156,7 +157,7 @@ class Launcher(unittest.TestCase):
             before = len(self.calls())
             os.utime(os.path.join(self.tree, source))
             self.right([self.start(), self.start()])
-            self.assertEqual(self.calls()[before:], [b"check", b"staticlib"], source)
+            self.assertEqual(self.calls()[before:], [b"lib"], source)
         before, program = self.calls(), os.path.join(self.tree, "target/programs/tagedit")
         for source in ("programs/tagedit/main.c", "include/aquiledru.h", "tools/headers/stdio.h", "tools/kit-cc"):
             built = os.stat(program).st_mtime_ns
@@ -172,7 +173,7 @@ class Launcher(unittest.TestCase):
         self.settings["TAKES"] = "2.5"
         _, said = on_terminal([self.command], read(EXAMPLE), self.settings)
         self.assertRegex(said, "takes some minutes")
-        self.assertRegex(said, r"\r\x1b\[Kbuild: 1 of \d\d crates done, [1-9] s; proving [a-z ]*fields")
+        self.assertRegex(said, r"\r\x1b\[Kbuild: 1 of \d\d crates done, [1-9] s")
 
     def test_says_why_it_failed(self):
         for text in (NOT_PROVED, RT_DIES):
