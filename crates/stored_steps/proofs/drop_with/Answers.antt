@@ -28,7 +28,7 @@ put_back-requires c =
     let put : marks ≡ stored_at 1 places c.args.marks.now = c.mark_in_read.ensures in
     let in_row : length (held_in m).seq ≤ length c.args.marks.now = omega (arith, c.requires.2, length-take c.args.lengths.seq (row_of)) in
     let named : (p : ℕ) → p < length (held_in m).seq → is_marked marks p ≡ among places p =
-    λ p c.drop_marked-made.new. ap (λ (r : List ℕ). is_marked r p) put ∙ marked_only places c.args.marks.now c.requires.3.1 p (omega (arith, c.drop_marked-made.new, in_row)) in
+    λ p l. ap (λ (r : List ℕ). is_marked r p) put ∙ marked_only places c.args.marks.now c.requires.3.1 p (omega (arith, l, in_row)) in
     c.drop_marked-made.ensures
     ∙ ap (leaves_memory m) (drop_is_step c.args.has_ml m (plain_ordered c.args.reverse c.args.has_ml c.args.packed.now c.args.mm.now c.args.ml.now (row_of) c.args.lengths c.requires.0
     (front) (room)) places marks named)) in
@@ -46,7 +46,7 @@ returns c =
     let put : marks ≡ stored_at 1 places c.args.marks.now = c.mark_in_read.ensures in
     let in_row : length (held_in m).seq ≤ length c.args.marks.now = omega (arith, c.requires.2, length-take c.args.lengths.seq (row_of)) in
     let named : (p : ℕ) → p < length (held_in m).seq → is_marked marks p ≡ among places p =
-    λ p c.drop_marked-made.new. ap (λ (r : List ℕ). is_marked r p) put ∙ marked_only places c.args.marks.now c.requires.3.1 p (omega (arith, c.drop_marked-made.new, in_row)) in
+    λ p l. ap (λ (r : List ℕ). is_marked r p) put ∙ marked_only places c.args.marks.now c.requires.3.1 p (omega (arith, l, in_row)) in
     c.drop_marked-made.ensures
     ∙ ap (leaves_memory m) (drop_is_step c.args.has_ml m (plain_ordered c.args.reverse c.args.has_ml c.args.packed.now c.args.mm.now c.args.ml.now (row_of) c.args.lengths c.requires.0
     (front) (room)) places marks named)) in
