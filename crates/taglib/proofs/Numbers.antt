@@ -45,7 +45,7 @@ use Rattle.taglib.proofs.ModeNumbers.{mode_only}
 use Rattle.telling.proofs.Returned.{only_more, returned_filled, returned_only, returned_written}
 use Rattle.alignment.proofs.Numbers.{fetch_ref_bases_at_positions_numbers, query_to_ref_positions_numbers}
 use Rattle.annotation.proofs.Numbers.{annotate_simplex_methylation_numbers, converted_counts_numbers, gate_to_informative_numbers, restore_unconverted_bases_numbers, truncate_numbers, unconverted_counts_numbers}
-use Rattle.duplex.proofs.Numbers.{duplex_tags_only}
+use Rattle.duplex.proofs.Numbers.{duplex_numbers, duplex_tags_only}
 use Rattle.stored.proofs.Numbers.{listed_stored_only, read_stored_only, tally_stored_only, turn_stored_only, unpack_stored_only}
 use Rattle.stored_edits.proofs.Numbers.{cut_stored_only, drop_stored_only, mask_stored_only}
 use Rattle.stored_session.proofs.Numbers.{open_stored_only, step_stored_only}
@@ -161,8 +161,8 @@ pub aql_duplex_methylation_tags_numbers : (bases : List ℕ) (count mode : ℕ) 
     (lengths' : List ℕ) → DuplexesInC bases count mode a b lent lengths r left lengths'
     → Returns (1 ∷ 2 ∷ 12 ∷ 13 ∷ []) (duplexes_as count mode bases a b (lengths_lent lent)) r
 aql_duplex_methylation_tags_numbers bases count mode a b lent lengths r left lengths' h =
-    returned_only _ _ refl h.0
-    (only_and_then _ (mode_of mode) _ (mode_only _ mode refl) (λ c. duplex_tags_only count c bases a b (lengths_lent lent)))
+    returned_only duplex_numbers _ refl h.0
+    (only_and_then duplex_numbers (mode_of mode) _ (mode_only duplex_numbers mode refl) (λ c. duplex_tags_only count c bases a b (lengths_lent lent)))
 
 -- ---- reading
 
@@ -170,7 +170,8 @@ pub aql_check_tag_numbers : (seq mm ml : List ℕ) (hasMl groups calls r groups'
     → ChecksTagInC seq mm ml hasMl groups calls r groups' calls'
     → Returns (1 ∷ 3 ∷ 4 ∷ 5 ∷ 6 ∷ 7 ∷ 8 ∷ 9 ∷ []) (read_tag (yes hasMl) seq mm ml) r
 aql_check_tag_numbers seq mm ml hasMl groups calls r groups' calls' h =
-    returned_only _ _ refl h.0 (read_tag_only _ refl refl (yes hasMl) seq mm ml)
+    let ns : List ℕ = 1 ∷ 3 ∷ 4 ∷ 5 ∷ 6 ∷ 7 ∷ 8 ∷ 9 ∷ [] in
+    returned_only ns _ refl h.0 (read_tag_only ns refl refl (yes hasMl) seq mm ml)
 
 pub aql_read_calls_numbers : (seq mm ml : List ℕ) (hasMl : ℕ) (gs ps ss : List ℕ) (groups calls r : ℕ) (gs' ps' ss' : List ℕ) (groups' calls' : ℕ)
     → ReadsCallsInC seq mm ml hasMl gs ps ss groups calls r gs' ps' ss' groups' calls'
@@ -185,7 +186,9 @@ aql_read_calls_numbers seq mm ml hasMl gs ps ss groups calls r gs' ps' ss' group
 
 pub aql_tally_numbers : (seq mm ml : List ℕ) (above below r above' below' : ℕ) → TalliesInC seq mm ml above below r above' below'
     → Returns (1 ∷ 3 ∷ 4 ∷ 5 ∷ 6 ∷ 7 ∷ 8 ∷ 9 ∷ []) (tally_tag seq mm ml) r
-aql_tally_numbers seq mm ml above below r above' below' h = returned_only _ _ refl h.0 (tally_tag_only _ refl refl seq mm ml)
+aql_tally_numbers seq mm ml above below r above' below' h =
+    let ns : List ℕ = 1 ∷ 3 ∷ 4 ∷ 5 ∷ 6 ∷ 7 ∷ 8 ∷ 9 ∷ [] in
+    returned_only ns _ refl h.0 (tally_tag_only ns refl refl seq mm ml)
 
 -- ---- rewriting
 

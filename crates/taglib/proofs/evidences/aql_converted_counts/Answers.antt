@@ -1,0 +1,19 @@
+-- `aql_converted_counts`: the counts of the `ct` tag, for C.
+-- Assumes nothing.
+use mathlib.Core.Path.{◌∙◌, ap}
+use Rattle.lent.specs.Outcome.{number_of}
+use Rattle.telling.specs.Told.{told}
+use Rattle.taglib.proofs.evidences.aql_converted_counts.Reads as reads
+use Rattle.taglib.proofs.evidences.aql_converted_counts.Lts as lts
+use Rattle.annotation.proofs.converted_counts.Reads as converted-counts-reads
+use Rattle.telling.proofs.written.Reads as written-reads
+use Rattle.taglib.proofs.evidences.aql_converted_counts.Goals as goal
+
+pub returns : goal.returns
+returns c =
+    let was = c.args.n.now in
+    (
+      c.written.ensures.0 ∙ ap number_of c.converted_counts-answer.ensures.0,
+      c.written.ensures.1 ∙ ap (λ o. told (λ m. m) o was) c.converted_counts-answer.ensures.0,
+      c.converted_counts-answer.ensures.1,
+    )

@@ -1,0 +1,11 @@
+-- `aql_stored_drop_calls` takes the lengths from the array, writes the new ones back, and hands on the answer.
+-- Assumes nothing.
+use Rattle.samtags.specs.Session.{drop_calls}
+use Rattle.telling.specs.Told.{yes}
+use Rattle.taglib.proofs.HandedStored.{stored_step_handed}
+use Rattle.taglib.proofs.stored_sessions.aql_stored_drop_calls.Goals as goal
+
+pub returns : goal.returns
+returns c =
+    stored_step_handed (yes c.args.reverse) (yes c.args.has_ml) (drop_calls c.args.places.now) c.args.packed.now c.args.mm.now c.args.ml.now c.args.lengths.now
+    c.lengths_in-held.ensures c.drop_calls-answer.ensures c.stepped.ensures
