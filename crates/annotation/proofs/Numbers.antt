@@ -9,7 +9,7 @@ use lib.IntN.{ℤ, pos}
 use lib.ListN.{length, replicate}
 use Rattle.lent.specs.Answers.{Answers, refuses_only}
 use Rattle.lent.specs.Lists.{among, sum}
-use Rattle.lent.specs.Outcome.{Outcome, done, need, says, number_of}
+use Rattle.lent.specs.Outcome.{Outcome, done, says, number_of}
 use Rattle.lent.specs.declared.Written.{Written}
 use Rattle.lent.proofs.Answers.{only_need, only_and_then, answers}
 use Rattle.pattern.specs.declared.ConversionPattern.{ConversionPattern}

@@ -3,6 +3,8 @@
 // The names are those of the Rust code. Its vector of evidence is three lent columns here: informative (nonzero is yes, and yes is written as 1),
 // unconverted and converted. No function here has a `requires`. Each contract is one proposition of specs/PublicContracts, over definitions of the crates
 // `refusals`, `columns` and `counting`. The functions of these crates check whether a call is refused and, if it is not, do the work.
+#![tactic(auto)]
+
 ghost use Rattle.annotation.specs.PublicContracts.{Annotates, Gates, Truncates, GivesCounts, Restores};
 
 use lent::Written;

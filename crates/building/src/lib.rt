@@ -3,6 +3,8 @@
 // The names are those of the Rust code. The evidence is three columns, as long as the consensus: informative (nonzero is yes), unconverted and
 // converted. A base of the pattern's letter, in upper or lower case, is listed if it is informative and has a read counted, with the skip since the last listed
 // base. No function here has a `requires`. Each public contract is a proposition of specs/PublicContracts.antt.
+#![tactic(auto)]
+
 ghost use Rattle.std.specs.Prelude.{◌≡◌};
 ghost use Rattle.lent.specs.Outcome.{on_done, tag_says};
 ghost use Rattle.samtags.specs.Writing.{sizes_of};

@@ -4,18 +4,18 @@ use mathlib.Core.Path.{◌≡◌, refl, sym, ap, ◌∙◌}
 use Prim.Native.Nat.{ℕ, zero, suc, ◌+◌, ◌-◌, ◌≤◌, ◌<◌}
 use native.Mathlib.Nat.{sub-zero}
 use native.Mathlib.Omega.{arith}
-use mathlib.Core.Bool.{Bool, true, false, cond, ◌&&◌, ◌||◌}
+use mathlib.Core.Bool.{Bool, true, false, ◌||◌}
 use mathlib.Core.List.{List, [], ◌∷◌}
 use lib.Dec.{eqb}
-use lib.ListN.{length, get_or, take, drop, drop_of_length-le, replicate, set, length-set}
+use lib.ListN.{length, get_or, take, replicate, set, length-set}
 use lib.Seq.{get_or-set_other, get_or-set_same}
 use borrow.Author.Tests.{eq-eqb, eqb-false, eqb-true, ne_eqb}
-use Rattle.lent.proofs.Lists.{Agree, agree_all, agree_imp, drop_here}
+use Rattle.lent.proofs.Lists.{Agree, agree_all, agree_imp}
 use Rattle.lent.proofs.Tests.{by-test}
 use Rattle.lent.specs.Lists.{among}
 use Rattle.samtags.proofs.Places.{inside_true, places_pass, tracked_inside}
 use Rattle.samtags.proofs.SameEdit.{edited_same}
-use Rattle.samtags.specs.Edits.{cut_to, dropping_at, edited, is_masked, lies_in, masked_to}
+use Rattle.samtags.specs.Edits.{cut_to, dropping_at, edited, masked_to}
 use Rattle.samtags.specs.Meaning.{inside}
 use Rattle.samtags.specs.Reading.{nowhere}
 use Rattle.samtags.specs.Spots.{holds, tracked}

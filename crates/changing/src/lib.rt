@@ -1,5 +1,7 @@
 // The one form of edit that the rewriting calls and the steps of a session share: SEQ became `after`, which begins at place `lo` of the old SEQ, and
 // the calls at the marked places are dropped. A support crate: its functions may have a `requires`.
+#![tactic(auto)]
+
 ghost use Rattle.std.specs.Prelude.{◌≡◌};
 ghost use Rattle.changing.specs.Windows.{held_in, is_marked, denied_in, Unmarked, stored_at};
 

@@ -3,13 +3,12 @@
 use mathlib.Core.Path.{◌≡◌, refl, ap, ◌∙◌}
 use Prim.Native.Nat.{ℕ, ◌+◌, ◌≤◌, ◌<◌, min}
 use native.Mathlib.Omega.{arith}
-use mathlib.Core.Bool.{Bool, true, false, ◌&&◌, ◌||◌}
+use mathlib.Core.Bool.{Bool, true, false}
 use mathlib.Core.List.{List, [], ◌∷◌}
 use mathlib.Core.Logic.{⊎_elim}
 use lib.Dec.{eqb}
 use lib.ListN.{length, get_or}
 use borrow.Author.Tests.{lt-ltb, le-ltb}
-use borrow.Fn.PlainCycle.{is}
 use Rattle.lent.proofs.InPlace.{changed_up_to}
 use Rattle.lent.proofs.Numbers.{le_or_lt}
 use Rattle.lent.proofs.Tests.{by-test, eqb_sym}

@@ -1,5 +1,7 @@
 // Fills the columns of evidence from reads: sets the marks, zeroes the counts, then counts read by read. So it passes over the bases of all reads
 // once and in order. A support crate: its functions may have a `requires`; the public calls are in `annotation`.
+#![tactic(auto)]
+
 ghost use Rattle.std.specs.Prelude.{◌≡◌, ◌<◌, length, get_or, set};
 ghost use Rattle.pattern.specs.Patterns.{bases_of};
 ghost use Rattle.lent.specs.Lists.{sum};

@@ -1,6 +1,8 @@
 // One walk over a tag from the left, which answers, and writes the tag as the edit leaves it. The rows are written as far as they reach. So the same
 // walk measures over empty rows, and writes into the caller's rows once the tag is known to fit. Writing never overtakes reading. A support crate:
 // its functions may have a `requires`.
+#![tactic(auto)]
+
 ghost use Rattle.std.specs.Prelude.{◌≡◌, ◌+◌, ◌≤◌, ◌<◌, min, length, drop};
 ghost use Rattle.lent.specs.Lists.{last_or};
 ghost use Rattle.samtags.specs.Bytes.{comma, semicolon};

@@ -8,7 +8,6 @@ use mathlib.Core.List.{List, [], append-nil, map}
 use lib.Dec.{eqb}
 use lib.IntN.{pos}
 use lib.ListN.{get_or, length, length-append, length-map}
-use borrow.Table.Elements.{at}
 use Rattle.columns.specs.Columns.{as_tag_counts}
 use Rattle.duplex.proofs.Admitted.{Passed, every_strand, passes_too}
 use Rattle.duplex.specs.Duplex.{Duplexed, admitted, combined, duplex_tags, duplexed, lengths_of, no_tags, restored_by, strand_tags, strands_of, within}
@@ -16,7 +15,6 @@ use Rattle.duplex.specs.Measured.{both_sizes, part_lengths, restored_seq}
 use Rattle.evidence.specs.Position.{capped}
 use Rattle.joining.proofs.Parts.{both_length, order_lengths}
 use Rattle.joining.specs.Order.{first_of, all_counts, in_order_of, second_of, second_tag}
-use Rattle.joining.specs.declared.BothSizes.{BothSizes}
 use Rattle.lent.proofs.Tabulate.{length_tabulate, map_tabulate, tabulate_ext, tabulate_get_d}
 use Rattle.lent.proofs.Tests.{and_true_l, and_true_r, by-test}
 use Rattle.lent.specs.Lists.{concat_map, sum, tabulate}
@@ -25,7 +23,6 @@ use Rattle.pattern.specs.declared.ConversionPattern.{ConversionPattern}
 use Rattle.pattern.specs.declared.MethylationMode.{MethylationMode}
 use Rattle.samtags.proofs.Building.{joined_fits_the_domain}
 use Rattle.samtags.proofs.OwnTag.{joined_ml, joined_text, own_of}
-use Rattle.samtags.proofs.Steps.{all_same}
 use Rattle.samtags.specs.Building.{Evidence, Strand, converts_c, evidence_agrees, evidence_in_domain, in_join_order, joined_tag, own_tag}
 use Rattle.samtags.specs.Writing.{Tag}
 use Rattle.strand.proofs.Lengths.{Lengths, lengths_known}

@@ -4,6 +4,8 @@
 // strand, each strand's tag is built over that SEQ, and the joined tag has the C to T strand's group first. The number of strands is an argument. If
 // it is 1, the second strand's inputs are not read and its rows are unchanged. No public function has a `requires`. The contract is `Duplexes` of
 // specs/PublicContracts.antt.
+#![tactic(auto)]
+
 ghost use Rattle.std.specs.Prelude.{◌≡◌, true, cond, ◌&&◌, ◌||◌, ◌+◌, ◌≤◌, eqb, leb};
 ghost use Rattle.samtags.specs.Building.{columns, evidence_in_domain, evidence_agrees};
 ghost use Rattle.duplex.specs.Duplex.{strand, within, admitted};

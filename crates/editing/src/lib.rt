@@ -1,6 +1,8 @@
 // Edits a whole tag. A first walk finds every refusal, so that a refusal writes nothing. This walk needs no places; but if a row is shorter than the
 // tag, or if the places matter, it is the walk that writes, over empty rows. The room is checked last. A support crate of `rewriting` and `inplace`:
 // its functions may have a `requires`.
+#![tactic(auto)]
+
 ghost use Rattle.std.specs.Prelude.{◌≡◌, cond, [], ◌≤◌, length};
 ghost use Rattle.samtags.specs.Edits.{edited, in_room};
 ghost use Rattle.samtags.specs.Reading.{in_domain};

@@ -1,4 +1,6 @@
 // The entries of a group: reads an entry against SEQ, and writes it into the rows as the edit leaves it. A support crate: its functions may have a `requires`.
+#![tactic(auto)]
+
 ghost use Rattle.std.specs.Prelude.{◌≡◌, cond, ◌||◌, ◌+◌, ◌-◌, ◌≤◌, min, length};
 ghost use Rattle.std.proofs.lemmas.List.Edits.{sets};
 ghost use Rattle.samtags.specs.Decimal.{value};

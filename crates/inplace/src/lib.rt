@@ -1,6 +1,8 @@
 // Edits a whole tag in its own rows. An edited tag is never longer than the tag was, and a walk from the left overwrites only what it has read. So it
 // needs no copy of the text or of ML. A first walk finds every refusal, so that a refusal writes nothing; then a walk that can no longer refuse
 // writes the tag. A support crate: its functions may have a `requires`.
+#![tactic(auto)]
+
 ghost use Rattle.std.specs.Prelude.{◌≡◌, cond, ◌≤◌, length};
 ghost use Rattle.lent.specs.Outcome.{tag_says, done};
 ghost use Rattle.samtags.specs.Edits.{edited};

@@ -2,6 +2,8 @@
 // have a `requires`; the public call is in `duplex`.
 //
 // `two` says whether there is a second strand. If there is none, its inputs are not read and its rows are unchanged.
+#![tactic(auto)]
+
 ghost use Rattle.std.specs.Prelude.{◌≡◌, true, cond, [], ◌+◌, ◌≤◌, min, pos, length, take};
 ghost use Rattle.std.proofs.lemmas.List.Edits.{sets};
 ghost use Rattle.lent.specs.Filled.{over};

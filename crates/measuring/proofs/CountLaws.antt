@@ -6,7 +6,6 @@ use native.Mathlib.Nat.{add-zero}
 use native.Mathlib.Omega.{arith}
 use mathlib.Core.Bool.{Bool, ◌&&◌, cond, false, not, true}
 use mathlib.Core.List.{List, [], ◌++◌, ◌∷◌, map}
-use mathlib.Core.Logic.{⊎_elim}
 use lib.Dec.{eqb}
 use lib.ListN.{drop, drop_of_length-le, get_or, length, length-drop, take}
 use borrow.Author.Tests.{le-leb, lt-leb}
@@ -26,12 +25,9 @@ use Rattle.samtags.specs.Text.{base_of, closed_by, ends_in_question, led_by, up_
 use Rattle.places.proofs.TextLaws.{calls_none, entry_refused, group_on, groups_at, turn_on, turn_refused}
 use Rattle.places.proofs.WalkLaws.{entry_six}
 use Rattle.fields.specs.Fields.{field_of}
-use Rattle.measuring.specs.contracts.Counted.{the_type}
 use Rattle.measuring.specs.declared.Count.{Count}
 use Rattle.measuring.specs.declared.Counted.{Counted}
 use Rattle.measuring.specs.declared.Counted.TheVariants.{To, Refused, Unsure}
-use denote.Enum.Declared.{tag_of}
-use types.Run.{OneOf}
 use Rattle.measuring.specs.Counting.{calls_of, group_counted, groups_counted, spots_counted}
 
 -- an answer that is not `To`, as the code knows it

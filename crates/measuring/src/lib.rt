@@ -1,5 +1,7 @@
 // A first walk over a tag that needs no places. Whether a tag is refused with 3 to 9 depends on how many bases of a group's letter SEQ has, not on
 // their places. So they are counted once for each group, and no entry's base is looked up. A support crate: its functions may have a `requires`.
+#![tactic(auto)]
+
 ghost use Rattle.std.specs.Prelude.{◌≡◌, Bool, cond, false, List, [], ℕ, ◌+◌, ◌≤◌, ◌<◌, length, drop};
 ghost use Rattle.lent.specs.Lists.{last_or};
 ghost use Rattle.samtags.specs.Bytes.{comma, semicolon};

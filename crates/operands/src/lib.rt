@@ -1,5 +1,7 @@
 // The numbers that a line of `tagedit`'s input lists: plain decimals separated by commas, leading zeros allowed. A field that is no decimal, or too
 // large, makes its line bad. A support crate: its functions may have a `requires`.
+#![tactic(auto)]
+
 ghost use Rattle.std.specs.Prelude.{◌≡◌, true, map, ◌≤◌, length};
 ghost use Rattle.std.proofs.Math.Option.{none};
 ghost use Rattle.samtags.specs.Decimal.{value};

@@ -1,6 +1,8 @@
 // One walk over a tag from the left, which writes the tag as the edit leaves it into the rows that it reads. Writing never overtakes reading, so each
 // entry, header and value is read before it is overwritten. A refusal may come after the first bytes are written; so the caller measures the tag
 // first, and then no refusal comes. A support crate: its functions may have a `requires`.
+#![tactic(auto)]
+
 ghost use Rattle.std.specs.Prelude.{◌≡◌, ◌+◌, ◌≤◌, ◌<◌, length, take, drop};
 ghost use Rattle.lent.specs.Lists.{last_or};
 ghost use Rattle.samtags.specs.Bytes.{comma, semicolon};

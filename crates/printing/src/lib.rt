@@ -1,5 +1,7 @@
 // Writes lines into `tagedit`'s output from an index on, as far as the room reaches; each function returns the index after what it writes. A support
 // crate: its functions may have a `requires`.
+#![tactic(auto)]
+
 ghost use Rattle.std.specs.Prelude.{◌≡◌, [], ◌∷◌, ◌++◌, ◌+◌, ◌≤◌, length};
 ghost use Rattle.std.proofs.lemmas.List.Edits.{sets};
 ghost use Rattle.lines.specs.Lines.{line_of, line_end, answer_line, decimals};

@@ -1,6 +1,6 @@
 -- The hypotheses of the promises of reading back can be met: each promise is applied to a worked call, for which all its hypotheses hold together.
 -- Assumes nothing.
-use mathlib.Core.Path.{◌≡◌, refl}
+use mathlib.Core.Path.{refl}
 use Prim.Native.Nat.{ℕ}
 use native.Mathlib.Omega.{arith}
 use mathlib.Core.Bool.{true, false}
@@ -19,7 +19,7 @@ use Rattle.samtags.specs.Building.{Evidence, Strand, build_tag, columns, evidenc
 use Rattle.samtags.specs.Spots.{Call, Listing}
 use Rattle.building.specs.PublicContracts.{Built, BuiltAlone}
 use Rattle.duplex.specs.PublicContracts.{Duplexes, Rows, eleven_rows}
-use Rattle.duplex.specs.Duplex.{duplex_tags, restored_by, rows, strand, strands_of}
+use Rattle.duplex.specs.Duplex.{duplex_tags, rows, strand}
 use Rattle.duplex.specs.declared.Lengths.{Lengths}
 use Rattle.duplex.specs.declared.Duplex.TheVariants as duplex
 use Rattle.readback.proofs.Built.{ReadsBack, built_alone_reads_back, built_reads_back}

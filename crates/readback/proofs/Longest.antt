@@ -16,7 +16,6 @@ use Rattle.pattern.specs.Patterns.{is_enabled}
 use Rattle.pattern.specs.declared.ConversionPattern.TheVariants.{CToT}
 use Rattle.pattern.specs.declared.MethylationMode.{MethylationMode}
 use Rattle.columns.specs.Columns.{restored}
-use Rattle.samtags.specs.Writing.{Tag}
 use Rattle.samtags.specs.Building.{Strand, evidence_agrees, evidence_in_domain, joined_tag}
 use Rattle.samtags.proofs.Longest.{all_seen, two_strands_length}
 use Rattle.duplex.specs.Duplex.{Duplexed, admitted, duplex_tags, duplexed, lengths_of, restored_by, within}

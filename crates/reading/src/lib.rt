@@ -2,6 +2,8 @@
 //
 // Each call takes SEQ, the MM text and the ML as the caller has them, of any length and content, and answers with the scope's numbers in the scope's
 // order. If `has_ml` is false, the tag has no ML and the row lent for ML is ignored. No public function has a `requires`.
+#![tactic(auto)]
+
 ghost use Rattle.std.specs.Prelude.{◌≡◌, length};
 ghost use Rattle.lent.specs.Lists.{filter};
 ghost use Rattle.lent.specs.Outcome.{need};

@@ -2,6 +2,8 @@
 // `requires`; the public calls are in `record`.
 //
 // Here: opening. fates: the plan.
+#![tactic(auto)]
+
 pub mod fates;
 
 ghost use Rattle.std.specs.Prelude.{◌≡◌, ◌||◌, not, true, List, ℕ, ◌+◌, ◌≤◌, ◌<◌, eqb, leb, get_or, length};

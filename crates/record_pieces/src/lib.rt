@@ -3,6 +3,8 @@
 //
 // Two parts of one row cannot be lent at once. So the walk over a tag writes straight to its place what comes first, the text of MM or the values of ML, and
 // the other into a work row. That is copied from there, if the work row has room for it; else the walk runs once more.
+#![tactic(auto)]
+
 ghost use Rattle.std.specs.Prelude.{◌≡◌, false, true, [], ◌∷◌, ℕ, ◌+◌, ◌*◌, ◌≤◌, ◌<◌, length, take};
 ghost use Rattle.lent.specs.Answers.{is_done};
 ghost use Rattle.lent.specs.Lists.{among};

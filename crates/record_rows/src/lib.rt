@@ -1,5 +1,7 @@
 // What the calls on records do with rows: letters in read orientation, bytes copied into the new record, and the edited tag written into it. A support
 // crate: its functions may have a `requires`; the public calls are in `record`.
+#![tactic(auto)]
+
 ghost use Rattle.std.specs.Prelude.{◌≡◌, cond, true, false, [], ◌+◌, ◌-◌, ◌≤◌, ◌<◌, min, length};
 ghost use Rattle.std.proofs.lemmas.List.Edits.{sets};
 ghost use Rattle.changing.specs.Windows.{window_edit};

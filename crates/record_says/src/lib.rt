@@ -1,1 +1,3 @@
+#![tactic(auto)]
+
 // Theorems about the three calls on a record; no code.

@@ -2,6 +2,7 @@
 //
 // specs/Values.antt: what a field holds. specs/Changes.antt: what becomes of the fields. specs/Records.antt: the three calls, with their refusals.
 // specs/Plans.antt: the same changes as numbers, for the contracts of support functions. The numbers have their names here too.
+#![tactic(auto)]
 
 // The field stays.
 pub const STAYS: u8 = 0;

@@ -4,6 +4,8 @@
 // numbers in the scope's order. Done with how many bytes of text and of ML the edited tag takes: they fill the front of the two lent rows, and the
 // rest of each row is unchanged. With any other answer the rows are unchanged. If `has_ml` is false, the tag has no ML and both rows lent for ML are
 // ignored. Headers stay as spelled, skips are spelled anew, and a group that lost all its calls stays. No public function has a `requires`.
+#![tactic(auto)]
+
 ghost use Rattle.std.specs.Prelude.{◌≡◌, true, ◌≤◌, length};
 ghost use Rattle.samtags.specs.Reading.{in_domain};
 ghost use Rattle.changing.specs.Windows.{Unmarked};

@@ -1,4 +1,6 @@
 // One walk over a tag from the left, which answers, counts and lists the calls. The columns are written as far as they reach, so they may be of any length.
+#![tactic(auto)]
+
 ghost use Rattle.std.specs.Prelude.{◌≡◌, cond, ◌+◌, ◌≤◌, ◌<◌, length, drop, set};
 ghost use Rattle.lent.specs.Lists.{last_or};
 ghost use Rattle.samtags.specs.Bytes.{comma, semicolon};

@@ -12,10 +12,6 @@ use Rattle.lent.specs.Outcome.{done, tag_says}
 use Rattle.samtags.proofs.Room.{no_room_for_ml, no_room_for_text, room_for_both}
 use Rattle.samtags.specs.Building.{Evidence, build_tag, columns, own_tag}
 use Rattle.samtags.specs.Writing.{Tag}
-use Rattle.building.proofs.build_mm_ml_tags.Reads as reads
-use Rattle.building.proofs.build_mm_ml_tags.Lts as lts
-use Rattle.building.proofs.measure.Reads as measure-reads
-use Rattle.strand.proofs.put_tag.Reads as put-tag-reads
 use Rattle.building.proofs.build_mm_ml_tags.Goals as goal
 
 pub returns-in_default : goal.returns-in_default

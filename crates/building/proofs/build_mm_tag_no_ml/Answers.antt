@@ -8,15 +8,10 @@ use lib.ListN.{length}
 use Rattle.building.proofs.Measured.{Measured, measured, not_built}
 use Rattle.lent.proofs.Filled.{over_stored}
 use Rattle.lent.specs.Filled.{leaves}
-use Rattle.lent.specs.Outcome.{done, refusal, refused, tag_refusal, tag_says}
+use Rattle.lent.specs.Outcome.{done, refused, tag_refusal, tag_says}
 use Rattle.samtags.proofs.Room.{no_room_for_text, room_for_text}
 use Rattle.samtags.specs.Building.{Evidence, build_tag, columns, own_tag}
 use Rattle.samtags.specs.Writing.{Tag}
-use Rattle.building.proofs.build_mm_tag_no_ml.Reads as reads
-use Rattle.building.proofs.build_mm_tag_no_ml.Lts as lts
-use Rattle.building.proofs.measure.Reads as measure-reads
-use Rattle.lent.proofs.Tagged.refusal.Reads as refusal-reads
-use Rattle.strand.proofs.put_tag.Reads as put-tag-reads
 use Rattle.building.proofs.build_mm_tag_no_ml.Goals as goal
 
 pub returns-in_default : goal.returns-in_default

@@ -10,11 +10,6 @@ use Rattle.samtags.proofs.OwnTag.{own_full, own_none, own_some}
 use Rattle.samtags.specs.Building.{Evidence, built_tag, columns, evidence_agrees, evidence_in_domain, own_tag}
 use Rattle.samtags.specs.Writing.{Tag}
 use Rattle.strand.proofs.Lengths.{lengths_known}
-use Rattle.building.proofs.measure.Reads as reads
-use Rattle.building.proofs.measure.Lts as lts
-use Rattle.strand.proofs.agree.Reads as agree-reads
-use Rattle.strand.proofs.in_domain.Reads as in-domain-reads
-use Rattle.strand.proofs.measure.Reads as measure-reads
 use Rattle.building.proofs.measure.Goals as goal
 
 pub returns-then-not-short : goal.returns-then-not-short

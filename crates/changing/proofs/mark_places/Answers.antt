@@ -1,8 +1,8 @@
 use mathlib.Core.Path.{◌∙◌, ◌≡◌, ap, refl, sym}
-use Prim.Native.Nat.{◌+◌, ◌-◌, ℕ}
+use Prim.Native.Nat.{◌+◌, ℕ}
 use native.Mathlib.Omega.{arith}
 use mathlib.Core.List.{List}
-use lib.ListN.{drop, drop_of_length-le, get_or, length, set}
+use lib.ListN.{drop, drop_of_length-le, get_or, set}
 use Rattle.changing.specs.Windows.{stored_at}
 use Rattle.lent.proofs.Lists.{drop_here}
 use Rattle.changing.proofs.mark_places.Goals as goal

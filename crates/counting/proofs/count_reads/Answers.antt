@@ -1,9 +1,8 @@
 use mathlib.Core.Path.{refl, sym, ◌∙◌}
-use Prim.Native.Nat.{◌+◌, ◌-◌, ◌≤◌}
+use Prim.Native.Nat.{◌+◌, ◌≤◌}
 use native.Mathlib.Omega.{arith}
-use lib.ListN.{length, drop, get_or, length-take, length-drop}
+use lib.ListN.{length, get_or, length-take, length-drop}
 use Rattle.pattern.specs.Patterns.{bases_of}
-use Rattle.lent.specs.Lists.{sum}
 use Rattle.refusals.proofs.Sum.{sum_turn}
 use Rattle.counting.proofs.Joined.{rest_turn, rest_end}
 use Rattle.counting.proofs.count_reads.Goals as goal

@@ -82,8 +82,7 @@ past-waiting-requires c =
     ) in
     let rest = turn_rest c.args.kind.values (denied_in c.args.marks.now c.args.kind.may_drop) c.args.text.now c.loop-at.at low
     c.loop-at-test.true
-    c.next_field-field.result.now c.next_field-field.ensures [] c.args.ml.now c.loop-at.used in
-    (
+    c.next_field-field.result.now c.next_field-field.ensures [] c.args.ml.now c.loop-at.used in (
       omega (arith, w.enough, i.3),
       c.requires.seq_len_bound.2,
       low,
@@ -113,8 +112,7 @@ overflow_add-own c =
     ) in
     let rest = turn_rest c.args.kind.values (denied_in c.args.marks.now c.args.kind.may_drop) c.args.text.now c.loop-at.at low
     c.loop-at-test.true
-    c.next_field-field.result.now c.next_field-field.ensures [] c.args.ml.now c.loop-at.used in
-    (
+    c.next_field-field.result.now c.next_field-field.ensures [] c.args.ml.now c.loop-at.used in (
       omega (arith, w.enough, i.3),
       c.requires.seq_len_bound.2,
       low,
@@ -144,8 +142,7 @@ slice_bounds-own-end c =
     ) in
     let rest = turn_rest c.args.kind.values (denied_in c.args.marks.now c.args.kind.may_drop) c.args.text.now c.loop-at.at low
     c.loop-at-test.true
-    c.next_field-field.result.now c.next_field-field.ensures [] c.args.ml.now c.loop-at.used in
-    (
+    c.next_field-field.result.now c.next_field-field.ensures [] c.args.ml.now c.loop-at.used in (
       omega (arith, w.enough, i.3),
       c.requires.seq_len_bound.2,
       low,
@@ -175,8 +172,7 @@ put_entry-pen-requires c =
     ) in
     let rest = turn_rest c.args.kind.values (denied_in c.args.marks.now c.args.kind.may_drop) c.args.text.now c.loop-at.at low
     c.loop-at-test.true
-    c.next_field-field.result.now c.next_field-field.ensures [] c.args.ml.now c.loop-at.used in
-    (
+    c.next_field-field.result.now c.next_field-field.ensures [] c.args.ml.now c.loop-at.used in (
       omega (arith, w.enough, i.3),
       c.requires.seq_len_bound.2,
       low,
@@ -220,8 +216,7 @@ overflow_add-used c =
     ) in
     let rest = turn_rest c.args.kind.values (denied_in c.args.marks.now c.args.kind.may_drop) c.args.text.now c.loop-at.at low
     c.loop-at-test.true
-    c.next_field-field.result.now c.next_field-field.ensures [] c.args.ml.now c.loop-at.used in
-    (
+    c.next_field-field.result.now c.next_field-field.ensures [] c.args.ml.now c.loop-at.used in (
       omega (arith, w.enough, i.3),
       c.requires.seq_len_bound.2,
       low,
@@ -251,8 +246,7 @@ overflow_add-at-in-loop-at c =
     ) in
     let rest = turn_rest c.args.kind.values (denied_in c.args.marks.now c.args.kind.may_drop) c.args.text.now c.loop-at.at low
     c.loop-at-test.true
-    c.next_field-field.result.now c.next_field-field.ensures [] c.args.ml.now c.loop-at.used in
-    (
+    c.next_field-field.result.now c.next_field-field.ensures [] c.args.ml.now c.loop-at.used in (
       omega (arith, w.enough, i.3),
       c.requires.seq_len_bound.2,
       low,
@@ -282,8 +276,7 @@ overflow_add-at-in-loop-at-2 c =
     ) in
     let rest = turn_rest c.args.kind.values (denied_in c.args.marks.now c.args.kind.may_drop) c.args.text.now c.loop-at.at low
     c.loop-at-test.true
-    c.next_field-field.result.now c.next_field-field.ensures [] c.args.ml.now c.loop-at.used in
-    (
+    c.next_field-field.result.now c.next_field-field.ensures [] c.args.ml.now c.loop-at.used in (
       omega (arith, w.enough, i.3),
       c.requires.seq_len_bound.2,
       low,
@@ -313,8 +306,7 @@ loop-at-smaller c =
     ) in
     let rest = turn_rest c.args.kind.values (denied_in c.args.marks.now c.args.kind.may_drop) c.args.text.now c.loop-at.at low
     c.loop-at-test.true
-    c.next_field-field.result.now c.next_field-field.ensures [] c.args.ml.now c.loop-at.used in
-    (
+    c.next_field-field.result.now c.next_field-field.ensures [] c.args.ml.now c.loop-at.used in (
       omega (arith, w.enough, i.3),
       c.requires.seq_len_bound.2,
       low,
@@ -344,8 +336,7 @@ loop-at-preserved c =
     ) in
     let rest = turn_rest c.args.kind.values (denied_in c.args.marks.now c.args.kind.may_drop) c.args.text.now c.loop-at.at low
     c.loop-at-test.true
-    c.next_field-field.result.now c.next_field-field.ensures [] c.args.ml.now c.loop-at.used in
-    (
+    c.next_field-field.result.now c.next_field-field.ensures [] c.args.ml.now c.loop-at.used in (
       omega (arith, w.enough, i.3),
       c.requires.seq_len_bound.2,
       low,

@@ -1,7 +1,7 @@
 -- `edit_entries`. Invariant: reading and writing the remaining entries, after what is written, gives the result for all entries; and writing never
 -- overtakes reading.
 -- Assumes nothing.
-use mathlib.Core.Path.{◌≡◌, ap}
+use mathlib.Core.Path.{◌≡◌}
 use Prim.Native.Nat.{◌+◌, ◌-◌, ◌≤◌, ℕ}
 use mathlib.Core.List.{List}
 use lib.ListN.{drop, length}
@@ -11,9 +11,7 @@ use Rattle.changing.specs.Drafts.{Draft, draft}
 use Rattle.changing.specs.Windows.{denied_in, held_in, is_marked}
 use Rattle.lent.specs.Outcome.{Outcome, on_done}
 use Rattle.samtags.proofs.Behind.{Behind}
-use Rattle.samtags.specs.Decimal.{value}
 use Rattle.samtags.specs.Reading.{read_spots}
-use Rattle.samtags.specs.Spots.{tracked}
 use Rattle.samtags.specs.Text.{led_by, up_to}
 use Rattle.fields.specs.Fields.{field_of}
 use Rattle.places.specs.Walk.{tracked_from}

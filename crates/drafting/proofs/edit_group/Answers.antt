@@ -27,10 +27,10 @@ pub put_all-end-requires : goal.put_all-end-requires
 put_all-end-requires c =
     let ends_together : let n = length c.next_field-header.result.now in c.args.at + n + length (up_to 59 (drop (c.args.at + n) c.args.text.now)) ≡ c.args.at + length (up_to 59 (drop c.args.at c.args.text.now)) = omega (arith, rest_from c.args.text.now c.args.at (length c.next_field-header.result.now) (ap length (sym c.next_field-header.ensures))) in
     omega (
-  arith,
-  ends_together,
-  c.requires,
-)
+      arith,
+      ends_together,
+      c.requires,
+    )
 
 pub edit_entries-edited-requires : goal.edit_entries-edited-requires
 edit_entries-edited-requires c =
@@ -100,12 +100,12 @@ overflow_add-result c =
     c.edit_entries-edited.ensures) in
     let ends_together : let n = length c.next_field-header.result.now in c.args.at + n + length (up_to 59 (drop (c.args.at + n) c.args.text.now)) ≡ c.args.at + length (up_to 59 (drop c.args.at c.args.text.now)) = omega (arith, rest_from c.args.text.now c.args.at (length c.next_field-header.result.now) (ap length (sym c.next_field-header.ensures))) in
     omega (
-  arith,
-  (entries _
-      c.in-To.is).0,
-  ends_together,
-  c.requires,
-)
+      arith,
+      (entries _
+          c.in-To.is).0,
+      ends_together,
+      c.requires,
+    )
 
 pub overflow_add-result-2 : goal.overflow_add-result-2
 overflow_add-result-2 c =
@@ -170,8 +170,7 @@ returns c =
     let ends_together : let n = length c.next_field-header.result.now in c.args.at + n + length (up_to 59 (drop (c.args.at + n) c.args.text.now)) ≡ c.args.at + length (up_to 59 (drop c.args.at c.args.text.now)) = omega (arith, rest_from c.args.text.now c.args.at (length c.next_field-header.result.now) (ap length (sym c.next_field-header.ensures))) in
     let a =
     c.args in
-    let x = entries _ c.in-To.is in
-    (
+    let x = entries _ c.in-To.is in (
       omega (arith, x.0, ends_together),
       x.1,
       omega (arith, x.2, c.put_all-end.ensures.0),

@@ -23,9 +23,13 @@ loop-c-init c = (omega arith, omega arith, omega arith, omega arith, refl, refl,
 pub edit_group-edited-requires : goal.edit_group-edited-requires
 edit_group-edited-requires c =
     let inside : c.loop-c.c.at < length c.args.text.now = omega arith in
-    record { seq_len_bound = (omega arith, omega arith, omega arith, c.window_of-window.ensures.1); text_in_bounds = ahead
-            c.args.text.now c.loop-c.c.at (inside)
-            c.requires.3; used_in_bounds = omega arith }
+    record {
+      seq_len_bound = (omega arith, omega arith, omega arith, c.window_of-window.ensures.1);
+      text_in_bounds = ahead
+          c.args.text.now c.loop-c.c.at (inside)
+          c.requires.3;
+      used_in_bounds = omega arith;
+    }
 
 pub shape_of-out-in_default : goal.shape_of-out-in_default
 shape_of-out-in_default c =

@@ -10,7 +10,7 @@ use Rattle.drafting.specs.Walks.{edited_groups, tag_put}
 use Rattle.changing.specs.Windows.{is_marked, window_edit}
 use Rattle.drafting.specs.declared.Cursor.{Cursor}
 use Rattle.lent.specs.Outcome.{Outcome, on_done}
-use Rattle.samtags.specs.Reading.{read_group, read_groups}
+use Rattle.samtags.specs.Reading.{read_groups}
 use Rattle.samtags.specs.Text.{closed_by}
 use Rattle.drafting.proofs.edit_groups.Given as goal
 

@@ -9,7 +9,6 @@ use mathlib.Core.Bool.{Bool, cond, false, true}
 use mathlib.Core.List.{List}
 use lib.Dec.{eqb}
 use lib.ListN.{drop, length, take}
-use borrow.Table.Elements.{at}
 use Rattle.duplex.proofs.Admitted.{Passed, passed, refused_anyway}
 use Rattle.duplex.proofs.Pieces.{Known, known, lengths_are, pieces, room_asked, tags_fit}
 use Rattle.duplex.proofs.Roomy.{Roomy, roomy}
@@ -21,19 +20,9 @@ use Rattle.joining.specs.Order.{in_order_of, second_tag}
 use Rattle.joining.specs.declared.BothSizes.{BothSizes}
 use Rattle.lent.proofs.Filled.{over_front}
 use Rattle.lent.specs.Filled.{leaves, over}
-use Rattle.lent.specs.Outcome.{done, need, refusal, refuse, refused}
+use Rattle.lent.specs.Outcome.{done, need, refuse, refused}
 use Rattle.samtags.specs.Building.{Strand, own_tag}
 use Rattle.samtags.specs.Writing.{Tag}
-use Rattle.duplex.proofs.duplex_methylation_tags.Reads as reads
-use Rattle.duplex.proofs.duplex_methylation_tags.Lts as lts
-use Rattle.duplex.proofs.Measured.refusal.Reads as refusal-reads
-use Rattle.duplex.proofs.measure.Reads as measure-reads
-use Rattle.duplex.proofs.part_lengths.Reads as part-lengths-reads
-use Rattle.duplex.proofs.within.Reads as within-reads
-use Rattle.joining.proofs.join.Reads as join-reads
-use Rattle.joining.proofs.put_counts.Reads as put-counts-reads
-use Rattle.joining.proofs.put_tags.Reads as put-tags-reads
-use Rattle.joining.proofs.restore.Reads as restore-reads
 use Rattle.duplex.proofs.duplex_methylation_tags.Goals as goal
 
 -- a row for the second strand's counts, where there is one
@@ -226,13 +215,17 @@ put_tags-requires c =
     let r = room in
     let p = pass in
     let long = seq_long in
-    rw (held) record { seq_len_bound = (omega (arith, long, l.first.short), l.first.inf ∙ sym long, l.first.unc ∙ sym long, l.first.con ∙ sym long); second_informative_len = (λ (t : two ≡ true). ((l.second t).inf ∙ sym long, (l.second t).unc ∙ sym long, (l.second t).con ∙ sym long)); fact = (
-          sym (ap (λ (s : BothSizes). s.first_values) p.is),
-          sym (ap (λ (s : BothSizes). s.second_values) p.is),
-          rw (← p.is) r.ml,
-          r.mm₁,
-          r.mm₂,
-        ) }
+    rw (held) record {
+      seq_len_bound = (omega (arith, long, l.first.short), l.first.inf ∙ sym long, l.first.unc ∙ sym long, l.first.con ∙ sym long);
+      second_informative_len = (λ (t : two ≡ true). ((l.second t).inf ∙ sym long, (l.second t).unc ∙ sym long, (l.second t).con ∙ sym long));
+      fact = (
+        sym (ap (λ (s : BothSizes). s.first_values) p.is),
+        sym (ap (λ (s : BothSizes). s.second_values) p.is),
+        rw (← p.is) r.ml,
+        r.mm₁,
+        r.mm₂,
+      );
+    }
 
 pub join-requires : goal.join-requires
 join-requires c =

@@ -1,7 +1,5 @@
 -- `fits_too`, by cases: whether every row before had room.
 -- Assumes nothing.
-use Rattle.duplex.proofs.fits_too.Reads as reads
-use Rattle.duplex.proofs.fits_too.Lts as lts
 use Rattle.duplex.proofs.fits_too.Goals as goal
 
 pub returns-then-so_far : goal.returns-then-so_far

@@ -2,8 +2,6 @@
 -- Assumes nothing.
 use native.Mathlib.Omega.{arith}
 use borrow.Author.Tests.{eq-eqb, ne_eqb}
-use Rattle.duplex.proofs.is_count.Reads as reads
-use Rattle.duplex.proofs.is_count.Lts as lts
 use Rattle.duplex.proofs.is_count.Goals as goal
 
 pub returns-then-strands-eq1 : goal.returns-then-strands-eq1

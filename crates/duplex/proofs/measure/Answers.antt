@@ -3,21 +3,12 @@
 use mathlib.Core.Path.{◌∙◌, ◌≡◌, ap, sym}
 use mathlib.Core.Bool.{◌||◌, cond, false, true}
 use lib.Dec.{eqb}
-use borrow.Table.Elements.{at}
 use Rattle.duplex.proofs.Admitted.{all_pass, first_differs, first_long, not_counted, second_differs, second_long}
 use Rattle.duplex.specs.Duplex.{strand}
 use Rattle.duplex.specs.Measured.{both_sizes, restored_seq}
 use Rattle.lent.specs.Outcome.{done}
 use Rattle.samtags.specs.Building.{Strand, evidence_agrees, evidence_in_domain}
 use Rattle.strand.proofs.Lengths.{Lengths, lengths_known}
-use Rattle.duplex.proofs.measure.Reads as reads
-use Rattle.duplex.proofs.measure.Lts as lts
-use Rattle.duplex.proofs.is_count.Reads as is-count-reads
-use Rattle.duplex.proofs.second_agrees.Reads as second-agrees-reads
-use Rattle.duplex.proofs.second_in_domain.Reads as second-in-domain-reads
-use Rattle.joining.proofs.measure.Reads as measure-reads
-use Rattle.strand.proofs.agree.Reads as agree-reads
-use Rattle.strand.proofs.in_domain.Reads as in-domain-reads
 use Rattle.duplex.proofs.measure.Goals as goal
 
 pub returns-then-not-known : goal.returns-then-not-known

@@ -1,8 +1,5 @@
 -- `part_lengths`: field by field.
 -- Assumes nothing.
-use Rattle.duplex.proofs.part_lengths.Reads as reads
-use Rattle.duplex.proofs.part_lengths.Lts as lts
-use Rattle.duplex.proofs.second_counts.Reads as second-counts-reads
 use Rattle.duplex.proofs.part_lengths.Goals as goal
 
 pub returns : goal.returns

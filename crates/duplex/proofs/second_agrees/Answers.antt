@@ -1,8 +1,5 @@
 -- `second_agrees` checks only if there is a second strand.
 -- Assumes nothing.
-use Rattle.duplex.proofs.second_agrees.Reads as reads
-use Rattle.duplex.proofs.second_agrees.Lts as lts
-use Rattle.strand.proofs.agree.Reads as agree-reads
 use Rattle.duplex.proofs.second_agrees.Goals as goal
 
 pub returns-then-two : goal.returns-then-two

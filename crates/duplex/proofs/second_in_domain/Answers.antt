@@ -1,8 +1,5 @@
 -- `second_in_domain` checks only if there is a second strand.
 -- Assumes nothing.
-use Rattle.duplex.proofs.second_in_domain.Reads as reads
-use Rattle.duplex.proofs.second_in_domain.Lts as lts
-use Rattle.strand.proofs.in_domain.Reads as in-domain-reads
 use Rattle.duplex.proofs.second_in_domain.Goals as goal
 
 pub returns-then-two : goal.returns-then-two

@@ -3,10 +3,6 @@
 use mathlib.Core.Path.{◌∙◌, ◌≡◌, ap}
 use mathlib.Core.Bool.{Bool, ◌&&◌}
 use lib.Dec.{leb}
-use Rattle.duplex.specs.Duplex.{rows}
-use Rattle.duplex.proofs.within.Reads as reads
-use Rattle.duplex.proofs.within.Lts as lts
-use Rattle.duplex.proofs.fits_too.Reads as fits-too-reads
 use Rattle.duplex.proofs.within.Goals as goal
 
 pub returns : goal.returns

@@ -10,13 +10,12 @@ use Rattle.drafting.specs.declared.Edited.{Edited}
 use Rattle.editing.proofs.edit_checked.Goals as goal
 
 pub edit_groups-written-requires : goal.edit_groups-written-requires
-edit_groups-written-requires c =
-    (
-      c.requires.seq_len_bound.0,
-      c.requires.seq_len_bound.1,
-      c.requires.seq_len_bound.2,
-      (edited_passed (window_edit c.args.lo c.args.after.now c.args.marks.now) c.args.has_ml c.args.seq.now c.args.mm.now c.args.ml.now c.requires.ml_value.0 c.requires.ml_value.1).0,
-    )
+edit_groups-written-requires c = (
+  c.requires.seq_len_bound.0,
+  c.requires.seq_len_bound.1,
+  c.requires.seq_len_bound.2,
+  (edited_passed (window_edit c.args.lo c.args.after.now c.args.marks.now) c.args.has_ml c.args.seq.now c.args.mm.now c.args.ml.now c.requires.ml_value.0 c.requires.ml_value.1).0,
+)
 
 pub returns-in_default : goal.returns-in_default
 returns-in_default c =

@@ -2,8 +2,7 @@ use mathlib.Core.Path.{◌∙◌, ◌≡◌, ap, refl, sym}
 use Prim.Native.Nat.{◌+◌, ◌-◌, ℕ}
 use native.Mathlib.Omega.{arith}
 use mathlib.Core.Bool.{Bool, cond, true}
-use mathlib.Core.Logic.{⊎_elim}
-use lib.ListN.{drop, get_or, length, length-take, take}
+use lib.ListN.{drop, get_or, length-take, take}
 use Rattle.changing.proofs.EntryLaws.{held_anyway, one_at_most, passing_at, passing_behind, passing_end, passing_miss, passing_on}
 use Rattle.changing.specs.Drafts.{passing}
 use Rattle.changing.specs.Windows.{held_in}
@@ -38,29 +37,29 @@ loop-pos-preserved c =
     let n = c.args.skip.0 - c.loop-pos.ordinal.0 in
     let held = held_in c.args.window.lo c.args.after.now c.args.base in
     elim c.if-hit.branch [
-    then-hit+else-ordinal-skip w ↦
-    let counted : w.one_more-held.result.0 ≡ c.loop-pos.held.0 + cond w.stays-still.result 1 0 = w.one_more-held.ensures in
-    let hit : holds c.args.base (get_or c.args.seq.now i 0) ≡ true = sym c.counts-hit.ensures ∙ w.if-hit.true in
-    let still : w.stays-still.result ≡ held i =
-    w.stays-still.ensures ∙ held_anyway c.args.window c.args.after.now c.args.seq.now c.args.base i c.requires.2 (omega arith) hit in
-    let one : w.one_more-held.result.0 ≡ c.loop-pos.held.0 + cond (held i) 1 0 = counted ∙ ap (λ (t : Bool). c.loop-pos.held.0 + cond t 1 0) still in
-    rw (w.ordinal-is, w.held-is) (
-      omega arith,
-      omega (arith, w.if-ordinal-skip.false),
-      omega arith,
-      omega (arith, one, one_at_most (held i)),
-      c.loop-pos.invariant.4 ∙ passing_on held c.args.base c.args.seq.now i c.loop-pos.held.0 n (omega arith) hit
-          (c.args.skip.0 - (c.loop-pos.ordinal.0 + 1)) (omega (arith, w.if-ordinal-skip.false))
-          ∙ ap (λ (m : ℕ). passing held m (c.args.skip.0 - (c.loop-pos.ordinal.0 + 1)) (tracked_from c.args.base (i + 1) c.args.seq.now)) (sym one),
-    )
-    | else-hit w ↦ rw (w.ordinal-is, w.held-is) (
-      omega arith,
-      omega arith,
-      omega arith,
-      omega arith,
-      c.loop-pos.invariant.4 ∙ passing_miss held c.args.base c.args.seq.now i c.loop-pos.held.0 n (omega arith)
-          (sym c.counts-hit.ensures ∙ w.if-hit.false),
-    )
+      | then-hit+else-ordinal-skip w ↦
+          let counted : w.one_more-held.result.0 ≡ c.loop-pos.held.0 + cond w.stays-still.result 1 0 = w.one_more-held.ensures in
+          let hit : holds c.args.base (get_or c.args.seq.now i 0) ≡ true = sym c.counts-hit.ensures ∙ w.if-hit.true in
+          let still : w.stays-still.result ≡ held i =
+          w.stays-still.ensures ∙ held_anyway c.args.window c.args.after.now c.args.seq.now c.args.base i c.requires.2 (omega arith) hit in
+          let one : w.one_more-held.result.0 ≡ c.loop-pos.held.0 + cond (held i) 1 0 = counted ∙ ap (λ (t : Bool). c.loop-pos.held.0 + cond t 1 0) still in
+          rw (w.ordinal-is, w.held-is) (
+            omega arith,
+            omega (arith, w.if-ordinal-skip.false),
+            omega arith,
+            omega (arith, one, one_at_most (held i)),
+            c.loop-pos.invariant.4 ∙ passing_on held c.args.base c.args.seq.now i c.loop-pos.held.0 n (omega arith) hit
+                (c.args.skip.0 - (c.loop-pos.ordinal.0 + 1)) (omega (arith, w.if-ordinal-skip.false))
+                ∙ ap (λ (m : ℕ). passing held m (c.args.skip.0 - (c.loop-pos.ordinal.0 + 1)) (tracked_from c.args.base (i + 1) c.args.seq.now)) (sym one),
+          )
+      | else-hit w ↦ rw (w.ordinal-is, w.held-is) (
+        omega arith,
+        omega arith,
+        omega arith,
+        omega arith,
+        c.loop-pos.invariant.4 ∙ passing_miss held c.args.base c.args.seq.now i c.loop-pos.held.0 n (omega arith)
+            (sym c.counts-hit.ensures ∙ w.if-hit.false),
+      )
     ]
 
 pub returns : goal.returns

@@ -28,8 +28,7 @@ slice_bounds-count_tag-end c =
 pub count_tag-counted-requires : goal.count_tag-counted-requires
 count_tag-counted-requires c =
     let taken : take (c.values_taken-taken.result - 0) c.args.ml.now ≡ cond c.args.has_ml c.args.ml.now [] = (let n : c.values_taken-taken.result - 0 ≡ cond c.args.has_ml (length c.args.ml.now) 0 = omega (arith, c.values_taken-taken.ensures) in
-    taken_is c.args.has_ml c.args.ml.now (c.values_taken-taken.result - 0) n) in
-    (
+    taken_is c.args.has_ml c.args.ml.now (c.values_taken-taken.result - 0) n) in (
       c.requires.0,
       c.requires.1,
       omega (arith, length-take (c.values_taken-taken.result - 0) c.args.ml.now, c.values_taken-taken.ensures, c.requires.2),
@@ -44,8 +43,11 @@ edit_checked-requires c =
     subst (TagCounted (not (eqb (length c.args.marks.now) 0)) (read c.args.has_ml (is_marked c.args.marks.now) c.args.seq.now c.args.text.now c.args.ml.now)) e
     (subst (λ (o : Outcome (List Group)). TagCounted (not (eqb (length c.args.marks.now) 0)) o c.count_tag-counted.result) same
     (c.count_tag-counted.ensures (is_marked c.args.marks.now) (unmarked c.args.marks.now)))) in
-    record { seq_len_bound = c.requires; ml_value = edited_read (window_edit c.args.lo c.args.after.now c.args.marks.now) c.args.has_ml c.args.seq.now c.args.text.now c.args.ml.now _
-          (counted _ c.in-To.is) }
+    record {
+      seq_len_bound = c.requires;
+      ml_value = edited_read (window_edit c.args.lo c.args.after.now c.args.marks.now) c.args.has_ml c.args.seq.now c.args.text.now c.args.ml.now _
+          (counted _ c.in-To.is);
+    }
 
 pub returns-in-Refused : goal.returns-in-Refused
 returns-in-Refused c =

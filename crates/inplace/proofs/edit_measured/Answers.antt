@@ -29,11 +29,11 @@ use Rattle.inplace.proofs.edit_measured.Goals as goal
 pub slice_bounds-measure-end : goal.slice_bounds-measure-end
 slice_bounds-measure-end c =
     let taken_inside : c.values_taken-taken.result ≤ length c.args.ml.now = omega (
-  arith,
-  c.values_taken-taken.ensures,
-  cond_at_most c.args.has_ml (length
-      c.args.ml.now),
-) in
+      arith,
+      c.values_taken-taken.ensures,
+      cond_at_most c.args.has_ml (length
+          c.args.ml.now),
+    ) in
     taken_inside
 
 pub measure-measured-requires : goal.measure-measured-requires
@@ -41,8 +41,7 @@ measure-measured-requires c =
     let taken : take (c.values_taken-taken.result - 0) c.args.ml.now ≡ cond c.args.has_ml c.args.ml.now [] = (let n : c.values_taken-taken.result - 0 ≡ cond c.args.has_ml (length c.args.ml.now) 0 = omega (arith, c.values_taken-taken.ensures) in
     taken_is c.args.has_ml c.args.ml.now (c.values_taken-taken.result - 0) n) in
     let taken_short : length (take (c.values_taken-taken.result - 0) c.args.ml.now) ≤ 65536 = (let few : c.values_taken-taken.result - 0 ≤ 65536 = omega (arith, c.values_taken-taken.ensures, c.requires.2) in
-    omega (arith, few, length-take (c.values_taken-taken.result - 0) c.args.ml.now)) in
-    (
+    omega (arith, few, length-take (c.values_taken-taken.result - 0) c.args.ml.now)) in (
       c.requires.0,
       c.requires.1,
       taken_short,
@@ -64,11 +63,11 @@ returns-in_default c =
 pub slice_bounds-edit_groups-end : goal.slice_bounds-edit_groups-end
 slice_bounds-edit_groups-end c =
     let taken_inside : c.values_taken-taken.result ≤ length c.args.ml.now = omega (
-  arith,
-  c.values_taken-taken.ensures,
-  cond_at_most c.args.has_ml (length
-      c.args.ml.now),
-) in
+      arith,
+      c.values_taken-taken.ensures,
+      cond_at_most c.args.has_ml (length
+          c.args.ml.now),
+    ) in
     taken_inside
 
 pub edit_groups-requires : goal.edit_groups-requires
@@ -95,11 +94,11 @@ returns c =
     let taken : take (c.values_taken-taken.result - 0) c.args.ml.now ≡ cond c.args.has_ml c.args.ml.now [] = (let n : c.values_taken-taken.result - 0 ≡ cond c.args.has_ml (length c.args.ml.now) 0 = omega (arith, c.values_taken-taken.ensures) in
     taken_is c.args.has_ml c.args.ml.now (c.values_taken-taken.result - 0) n) in
     let taken_inside : c.values_taken-taken.result ≤ length c.args.ml.now = omega (
-  arith,
-  c.values_taken-taken.ensures,
-  cond_at_most c.args.has_ml (length
-      c.args.ml.now),
-) in
+      arith,
+      c.values_taken-taken.ensures,
+      cond_at_most c.args.has_ml (length
+          c.args.ml.now),
+    ) in
     let walked : (r : Edited) → c.measure-measured.result ≡ r → TagMeasured (outcome) r = λ r e. (let same = edited_taken (window_edit c.args.lo c.args.after.now c.args.marks.now) c.args.has_ml c.args.seq.now c.args.text.now c.args.ml.now _ (taken) in
     subst (TagMeasured (outcome)) e (subst (λ (o : Outcome
     Tag). TagMeasured o c.measure-measured.result) same c.measure-measured.ensures)) in

@@ -1,13 +1,9 @@
 use mathlib.Core.Path.{◌≡◌, refl}
-use Prim.Native.Nat.{◌-◌}
 use native.Mathlib.Numerals.{add-one}
 use native.Mathlib.Omega.{arith}
 use lib.ListN.{get_or, length, length-set, take}
 use lib.Seq.{length-take-le, take_all, take-suc}
 use Rattle.lent.proofs.Filled.{over_none, over_one_more}
-use Rattle.lent.specs.Filled.{over}
-use Rattle.joining.proofs.copy.Reads as reads
-use Rattle.joining.proofs.copy.Lts as lts
 use Rattle.joining.proofs.copy.Goals as goal
 
 pub loop-i-init : goal.loop-i-init

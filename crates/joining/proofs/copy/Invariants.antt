@@ -4,8 +4,6 @@ use mathlib.Core.Path.{◌≡◌}
 use Prim.Native.Nat.{◌-◌, ◌≤◌}
 use lib.ListN.{length, take}
 use Rattle.lent.specs.Filled.{over}
-use Rattle.joining.proofs.copy.Reads as reads
-use Rattle.joining.proofs.copy.Lts as lts
 use Rattle.joining.proofs.copy.Given as goal
 
 abbrev pub invariant-loop-i : goal.invariant-loop-i

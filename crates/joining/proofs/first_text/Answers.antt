@@ -4,9 +4,6 @@ use mathlib.Core.Path.{◌∙◌, ◌≡◌, sym}
 use mathlib.Core.Bool.{false, true}
 use Rattle.joining.specs.Order.{second_first}
 use Rattle.lent.proofs.Tabulate.{front_is}
-use Rattle.joining.proofs.first_text.Reads as reads
-use Rattle.joining.proofs.first_text.Lts as lts
-use Rattle.joining.proofs.second_first.Reads as second-first-reads
 use Rattle.joining.proofs.first_text.Goals as goal
 
 pub returns-then-swapped : goal.returns-then-swapped

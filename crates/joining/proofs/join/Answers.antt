@@ -8,11 +8,6 @@ use lib.ListN.{length, length-drop, length-take, take}
 use Rattle.joining.proofs.Parts.{order_lengths, part_joined}
 use Rattle.joining.specs.Order.{second_of}
 use Rattle.lent.specs.Filled.{over}
-use Rattle.joining.proofs.join.Reads as reads
-use Rattle.joining.proofs.join.Lts as lts
-use Rattle.joining.proofs.copy.Reads as copy-reads
-use Rattle.joining.proofs.first_text.Reads as first-text-reads
-use Rattle.joining.proofs.second_text.Reads as second-text-reads
 use Rattle.joining.proofs.join.Goals as goal
 
 pub copy-requires : goal.copy-requires

@@ -8,12 +8,6 @@ use mathlib.Core.List.{List}
 use lib.ListN.{drop, length, take}
 use Rattle.joining.proofs.Parts.{both_length, front_held}
 use Rattle.joining.specs.Order.{restored_by_both}
-use Rattle.joining.proofs.measure.Reads as reads
-use Rattle.joining.proofs.measure.Lts as lts
-use Rattle.joining.proofs.measure_second.Reads as measure-second-reads
-use Rattle.joining.proofs.restore.Reads as restore-reads
-use Rattle.joining.proofs.scratch.Reads as scratch-reads
-use Rattle.strand.proofs.measure.Reads as measure-reads
 use Rattle.joining.proofs.measure.Goals as goal
 
 pub restore-requires : goal.restore-requires

@@ -1,9 +1,6 @@
 -- `measure_second`: nothing if there is no second strand.
 -- Assumes nothing.
 use mathlib.Core.Path.{refl}
-use Rattle.joining.proofs.measure_second.Reads as reads
-use Rattle.joining.proofs.measure_second.Lts as lts
-use Rattle.strand.proofs.measure.Reads as measure-reads
 use Rattle.joining.proofs.measure_second.Goals as goal
 
 pub returns-then-not-two : goal.returns-then-not-two

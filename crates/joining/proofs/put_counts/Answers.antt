@@ -4,10 +4,6 @@ use mathlib.Core.Path.{◌≡◌}
 use native.Mathlib.Omega.{arith}
 use mathlib.Core.Bool.{false, true}
 use Rattle.lent.proofs.Filled.{over_none}
-use Rattle.joining.proofs.put_counts.Reads as reads
-use Rattle.joining.proofs.put_counts.Lts as lts
-use Rattle.columns.proofs.put_tag_counts.Reads as put-tag-counts-reads
-use Rattle.joining.proofs.put_sums.Reads as put-sums-reads
 use Rattle.joining.proofs.put_counts.Goals as goal
 
 pub returns-then-not-two : goal.returns-then-not-two

@@ -3,12 +3,8 @@
 use mathlib.Core.Path.{◌≡◌, refl}
 use mathlib.Core.Bool.{true}
 use lib.ListN.{length}
-use borrow.Table.Elements.{at}
 use Rattle.joining.specs.Order.{second_tag}
 use Rattle.samtags.specs.Building.{columns}
-use Rattle.joining.proofs.put_second.Reads as reads
-use Rattle.joining.proofs.put_second.Lts as lts
-use Rattle.strand.proofs.put_tag.Reads as put-tag-reads
 use Rattle.joining.proofs.put_second.Goals as goal
 
 pub put_tag-requires : goal.put_tag-requires

@@ -1,18 +1,12 @@
 use mathlib.Core.Path.{◌≡◌, refl}
-use Prim.Native.Nat.{◌+◌, ◌-◌}
+use Prim.Native.Nat.{◌+◌}
 use native.Mathlib.Omega.{arith}
-use lib.IntN.{pos}
 use lib.ListN.{get_or, length, length-set}
 use mir.Facts.{to_z_pos}
 use mir.Syntax.{w16}
 use mir.Val.{of_z, to_z}
 use Rattle.lent.proofs.Filled.{over_none}
 use Rattle.lent.proofs.Tabulate.{over_tabulate_more}
-use Rattle.lent.specs.Filled.{over}
-use Rattle.lent.specs.Lists.{tabulate}
-use Rattle.joining.proofs.put_sums.Reads as reads
-use Rattle.joining.proofs.put_sums.Lts as lts
-use Rattle.joining.proofs.sum_of.Reads as sum-of-reads
 use Rattle.joining.proofs.put_sums.Goals as goal
 use Rattle.joining.proofs.put_sums.Invariants.{sum_at}
 

@@ -7,9 +7,6 @@ use lib.IntN.{pos, ℤ}
 use lib.ListN.{get_or, length}
 use Rattle.lent.specs.Filled.{over}
 use Rattle.lent.specs.Lists.{tabulate}
-use Rattle.joining.proofs.put_sums.Reads as reads
-use Rattle.joining.proofs.put_sums.Lts as lts
-use Rattle.joining.proofs.sum_of.Reads as sum-of-reads
 use Rattle.joining.proofs.put_sums.Given as goal
 
 abbrev pub sum_at : List ℕ → List ℕ → ℕ → ℤ

@@ -13,12 +13,6 @@ use Rattle.joining.specs.Order.{second_first, second_tag}
 use Rattle.lent.proofs.Filled.{over_stored}
 use Rattle.lent.proofs.Stores.{part_stored}
 use Rattle.samtags.specs.Building.{columns, own_tag}
-use Rattle.joining.proofs.put_tags.Reads as reads
-use Rattle.joining.proofs.put_tags.Lts as lts
-use Rattle.joining.proofs.put_second.Reads as put-second-reads
-use Rattle.joining.proofs.second_first.Reads as second-first-reads
-use Rattle.joining.proofs.start_of.Reads as start-of-reads
-use Rattle.strand.proofs.put_tag.Reads as put-tag-reads
 use Rattle.joining.proofs.put_tags.Goals as goal
 
 pub slice_bounds-put_tag-count : goal.slice_bounds-put_tag-count
@@ -106,8 +100,7 @@ returns c =
     let t-is : t ≡ cond (not swapped) (length own.ml) 0 = st.1 ∙ ap (λ (n : ℕ). cond (not swapped) n 0) c.requires.fact.0 in
     let first = placed in
     let row = put_mid s (length c.args.ml.now - s) c.args.ml.now c.put_tag.new.ml in
-    let long : length row ≡ length c.args.ml.now = ap (λ (l : List ℕ). length l) first ∙ length-sets c.args.ml.now s own.ml in
-    (
+    let long : length row ≡ length c.args.ml.now = ap (λ (l : List ℕ). length l) first ∙ length-sets c.args.ml.now s own.ml in (
       c.put_tag.ensures.0 ∙ over_stored own.text c.args.first_mm.now c.requires.fact.3,
       c.put_second.ensures.0 ∙ over_stored other.text c.args.second_mm.now c.requires.fact.4,
       rw c.put_second.ensures.1

@@ -9,10 +9,6 @@ use Rattle.columns.specs.Columns.{restored}
 use Rattle.joining.proofs.Parts.{front_changed, front_held}
 use Rattle.lent.proofs.Tabulate.{length_zip}
 use Rattle.lent.specs.Filled.{over}
-use Rattle.joining.proofs.restore.Reads as reads
-use Rattle.joining.proofs.restore.Lts as lts
-use Rattle.columns.proofs.restore.Reads as restore-reads
-use Rattle.joining.proofs.copy.Reads as copy-reads
 use Rattle.joining.proofs.restore.Goals as goal
 
 pub restore-requires-then-two : goal.restore-requires-then-two

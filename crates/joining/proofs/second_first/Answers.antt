@@ -1,7 +1,5 @@
 -- `second_first`, by cases of the two patterns.
 -- Assumes nothing.
-use Rattle.joining.proofs.second_first.Reads as reads
-use Rattle.joining.proofs.second_first.Lts as lts
 use Rattle.joining.proofs.second_first.Goals as goal
 
 pub returns-in-CToT : goal.returns-in-CToT

@@ -6,8 +6,6 @@ use native.Mathlib.Omega.{arith}
 use lib.IntN.{pos}
 use mir.Facts.{to_z_pos}
 use mir.Syntax.{w16}
-use Rattle.joining.proofs.sum_of.Reads as reads
-use Rattle.joining.proofs.sum_of.Lts as lts
 use Rattle.joining.proofs.sum_of.Goals as goal
 
 pub returns-then-total-gt32767 : goal.returns-then-total-gt32767

@@ -5,9 +5,7 @@ use Prim.Native.Nat.{◌+◌, ◌≤◌, ℕ}
 use native.Mathlib.Omega.{arith}
 use mathlib.Core.Bool.{Bool, false}
 use mathlib.Core.List.{List}
-use mathlib.Core.Logic.{⊎_elim}
 use lib.ListN.{drop, length}
-use borrow.Author.Tests.{not-false}
 use Rattle.lent.specs.Outcome.{Outcome}
 use Rattle.samtags.specs.Reading.{denied_to, nowhere, read_group, read_spots}
 use Rattle.samtags.specs.Spots.{Spot, tracked}

@@ -1,5 +1,5 @@
 use mathlib.Core.Path.{◌∙◌, ◌≡◌, ap, refl, subst}
-use Prim.Native.Nat.{◌-◌, ◌<◌, ℕ}
+use Prim.Native.Nat.{◌<◌, ℕ}
 use native.Mathlib.Omega.{arith}
 use mathlib.Core.Bool.{Bool, false}
 use lib.ListN.{drop, length}
@@ -10,7 +10,6 @@ use Rattle.samtags.specs.Text.{closed_by, up_to}
 use Rattle.places.proofs.TextLaws.{ahead, groups_done, groups_over}
 use Rattle.measuring.proofs.CountLaws.{count_none, groups_refused, groups_turn, unless_to}
 use Rattle.measuring.specs.Counting.{GroupCounted, TagCounted, groups_counted}
-use Rattle.measuring.specs.declared.Count.{Count}
 use Rattle.measuring.specs.declared.Counted.{Counted}
 use Rattle.measuring.proofs.count_groups.Goals as goal
 

@@ -6,7 +6,7 @@ use mathlib.Core.Bool.{Bool, false}
 use mathlib.Core.List.{List}
 use lib.ListN.{drop, length}
 use Rattle.lent.specs.Outcome.{on_done, Outcome}
-use Rattle.samtags.specs.Reading.{nowhere, read_group, read_groups}
+use Rattle.samtags.specs.Reading.{nowhere, read_groups}
 use Rattle.samtags.specs.Text.{closed_by}
 use Rattle.measuring.specs.Counting.{groups_counted}
 use Rattle.measuring.specs.declared.Count.{Count}

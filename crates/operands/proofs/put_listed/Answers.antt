@@ -1,5 +1,5 @@
 use mathlib.Core.Path.{◌∙◌, ◌≡◌, ap, sym, refl}
-use Prim.Native.Nat.{◌+◌, ◌-◌, ◌≤◌, ◌<◌, ℕ}
+use Prim.Native.Nat.{◌+◌, ◌≤◌, ◌<◌, ℕ}
 use native.Mathlib.Omega.{arith}
 use mathlib.Core.Bool.{false, true}
 use mathlib.Core.List.{List, map}
@@ -14,14 +14,13 @@ use Rattle.lines.specs.Lines.{are_numbers}
 use Rattle.operands.proofs.put_listed.Goals as goal
 
 pub loop-at-init : goal.loop-at-init
-loop-at-init c =
-    (
-      omega arith,
-      ap (are_numbers 4294967295) (sym (fields_all c.args.body.now)),
-      ap
-          (λ (fs : List (List ℕ)). stored_at c.args.b (map value fs) c.args.row.now) (sym (fields_all c.args.body.now)),
-      refl,
-    )
+loop-at-init c = (
+  omega arith,
+  ap (are_numbers 4294967295) (sym (fields_all c.args.body.now)),
+  ap
+      (λ (fs : List (List ℕ)). stored_at c.args.b (map value fs) c.args.row.now) (sym (fields_all c.args.body.now)),
+  refl,
+)
 
 pub returns-in_default : goal.returns-in_default
 returns-in_default c =

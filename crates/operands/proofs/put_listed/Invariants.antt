@@ -1,6 +1,6 @@
 -- `put_listed`. Invariant: storing at the remaining listed places in the present row gives the same as storing at all of them in the row that was lent.
 -- Assumes nothing.
-use mathlib.Core.Path.{◌≡◌, ap}
+use mathlib.Core.Path.{◌≡◌}
 use Prim.Native.Nat.{◌+◌, ◌-◌, ◌≤◌}
 use mathlib.Core.List.{map}
 use lib.ListN.{length}

@@ -1,9 +1,9 @@
 -- `put_values`. Invariant: storing the remaining values behind those already stored gives the same as storing all of them from the start.
 -- Assumes nothing.
-use mathlib.Core.Path.{◌≡◌, ap}
+use mathlib.Core.Path.{◌≡◌}
 use Prim.Native.Nat.{◌+◌, ◌-◌, ◌≤◌}
 use mathlib.Core.List.{map}
-use lib.ListN.{length, set}
+use lib.ListN.{length}
 use lib.Seq.{sets}
 use Rattle.samtags.specs.Decimal.{value}
 use Rattle.lines.proofs.UpToLaws.{fields_from}

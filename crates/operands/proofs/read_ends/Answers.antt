@@ -48,10 +48,10 @@ pub overflow_cast-result-2 : goal.overflow_cast-result-2
 overflow_cast-result-2 c =
     let back : some c.in-Of-last.b ≡ number_to 4294967295 c.up_to-back.result.now = sym (ap number_says c.in-Of-last.is) ∙ c.read_number-last.ensures in
     omega (
-  arith,
-  (number_known c.up_to-back.result.now 4294967295
-      c.in-Of-last.b (back)).2,
-)
+      arith,
+      (number_known c.up_to-back.result.now 4294967295
+          c.in-Of-last.b (back)).2,
+    )
 
 pub returns : goal.returns
 returns c =

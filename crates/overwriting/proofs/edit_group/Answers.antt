@@ -30,15 +30,14 @@ returns-then-width-lt2 c =
 
 pub move_left-requires : goal.move_left-requires
 move_left-requires c =
-    let ends_together : let n = length c.next_field-header.result.now in c.args.at + n + length (up_to 59 (drop (c.args.at + n) c.args.text.now)) ≡ c.args.at + length (up_to 59 (drop c.args.at c.args.text.now)) = omega (arith, rest_from c.args.text.now c.args.at (length c.next_field-header.result.now) (ap length (sym c.next_field-header.ensures))) in
-    (
-  omega arith,
-  omega (
-    arith,
-    ends_together,
-    c.requires,
-  ),
-)
+    let ends_together : let n = length c.next_field-header.result.now in c.args.at + n + length (up_to 59 (drop (c.args.at + n) c.args.text.now)) ≡ c.args.at + length (up_to 59 (drop c.args.at c.args.text.now)) = omega (arith, rest_from c.args.text.now c.args.at (length c.next_field-header.result.now) (ap length (sym c.next_field-header.ensures))) in (
+      omega arith,
+      omega (
+        arith,
+        ends_together,
+        c.requires,
+      ),
+    )
 
 pub edit_entries-edited-requires : goal.edit_entries-edited-requires
 edit_entries-edited-requires c =
@@ -135,10 +134,10 @@ overflow_add-result c =
     let stop_inside : (c.in-To.stop.at < length c.args.text.now) × (c.in-To.stop.end ≤ c.in-To.stop.at) = (let x = entries _ c.in-To.is in
     (omega (arith, x.0, ends_together, c.requires), omega (arith, x.2))) in
     omega (
-  arith,
-  stop_inside,
-  c.requires,
-)
+      arith,
+      stop_inside,
+      c.requires,
+    )
 
 pub overflow_add-result-2 : goal.overflow_add-result-2
 overflow_add-result-2 c =
@@ -164,10 +163,10 @@ overflow_add-result-2 c =
     let stop_inside : (c.in-To.stop.at < length c.args.text.now) × (c.in-To.stop.end ≤ c.in-To.stop.at) = (let x = entries _ c.in-To.is in
     (omega (arith, x.0, ends_together, c.requires), omega (arith, x.2))) in
     omega (
-  arith,
-  stop_inside,
-  c.requires,
-)
+      arith,
+      stop_inside,
+      c.requires,
+    )
 
 pub shape_of-text : goal.shape_of-text
 shape_of-text c =
@@ -195,8 +194,7 @@ returns c =
     row c.args.ml.now r c.edit_entries-edited.new.text c.edit_entries-edited.new.ml
     (subst (says (drop (entries_at).at t)) e
     (subst (λ (d : List ℕ). says d c.edit_entries-edited.result) (entries_stand) c.edit_entries-edited.ensures))) in
-    let x = entries _ c.in-To.is in
-    (
+    let x = entries _ c.in-To.is in (
       omega (arith, x.0, ends_together),
       x.1,
       omega (arith, x.2),

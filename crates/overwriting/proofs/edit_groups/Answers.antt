@@ -35,7 +35,8 @@ edit_group-edited-requires c =
     ap (drop (c.loop-c.c.at - c.loop-c.c.end)) (part_lent c.loop-c.text c.loop-c.c.end) ∙ ahead_of c.loop-c.text t c.loop-c.c.end c.loop-c.c.at c.loop-c.invariant.2 c.loop-c.invariant.5 in
     let size : length (up_to 59 (drop (c.loop-c.c.at - c.loop-c.c.end) part)) ≡ length (up_to 59 (drop c.loop-c.c.at t)) =
     ap (λ (l : List ℕ). length (up_to 59 l)) there in
-    let far = ahead t c.loop-c.c.at (inside) c.requires.3 in record { seq_len_bound = (
+    let far = ahead t c.loop-c.c.at (inside) c.requires.3 in record {
+      seq_len_bound = (
         c.requires.0,
         omega (
           arith,
@@ -50,7 +51,10 @@ edit_group-edited-requires c =
           c.requires.2,
         ),
         c.window_of-window.ensures.1,
-      ); text_in_bounds = omega (arith, long, size, far, c.loop-c.invariant.2, c.loop-c.invariant.7); used_in_bounds = omega (arith, ml_long, c.loop-c.invariant.1, c.loop-c.invariant.3, c.loop-c.invariant.8) }
+      );
+      text_in_bounds = omega (arith, long, size, far, c.loop-c.invariant.2, c.loop-c.invariant.7);
+      used_in_bounds = omega (arith, ml_long, c.loop-c.invariant.1, c.loop-c.invariant.3, c.loop-c.invariant.8);
+    }
 
 pub shape_of-text-in_default : goal.shape_of-text-in_default
 shape_of-text-in_default c =

@@ -1,8 +1,7 @@
 use mathlib.Core.Path.{◌∙◌, ◌≡◌, ap, refl}
-use Prim.Native.Nat.{◌+◌, ◌-◌, ◌<◌, ◌≤◌, ℕ}
+use Prim.Native.Nat.{◌+◌, ◌<◌, ◌≤◌, ℕ}
 use native.Mathlib.Omega.{arith}
 use mathlib.Core.List.{List}
-use mathlib.Core.Logic.{⊎_elim}
 use lib.ListN.{get_or, length, take}
 use lib.Seq.{take_all}
 use borrow.Author.Tests.{le-leb, lt-leb}
@@ -27,8 +26,8 @@ pub loop-i-preserved : goal.loop-i-preserved
 loop-i-preserved c =
     let ml = c.args.ml.now in
     elim c.if-ml-i-ge128.branch [
-      then-ml-i-ge128 w ↦ (omega arith, omega arith, omega (arith, above_more ml c.loop-i.i (omega arith) (omega arith)))
-    | else-ml-i-ge128 w ↦ (omega arith, omega arith, omega (arith, above_same ml c.loop-i.i (omega arith) (omega arith)))
+      | then-ml-i-ge128 w ↦ (omega arith, omega arith, omega (arith, above_more ml c.loop-i.i (omega arith) (omega arith)))
+      | else-ml-i-ge128 w ↦ (omega arith, omega arith, omega (arith, above_same ml c.loop-i.i (omega arith) (omega arith)))
     ]
 
 pub returns : goal.returns

@@ -37,8 +37,7 @@ slice_bounds-count_tag-end c =
 pub count_tag-requires : goal.count_tag-requires
 count_tag-requires c =
     let taken : take (c.values_taken-taken.result - 0) c.args.ml.now ≡ cond c.args.has_ml c.args.ml.now [] = (let n : c.values_taken-taken.result - 0 ≡ cond c.args.has_ml (length c.args.ml.now) 0 = omega (arith, c.values_taken-taken.ensures) in
-    taken_is c.args.has_ml c.args.ml.now (c.values_taken-taken.result - 0) n) in
-    (
+    taken_is c.args.has_ml c.args.ml.now (c.values_taken-taken.result - 0) n) in (
       omega arith,
       omega arith,
       omega (arith, length-take (c.values_taken-taken.result - 0) c.args.ml.now),

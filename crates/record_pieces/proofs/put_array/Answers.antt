@@ -21,8 +21,7 @@ copy_array-end-requires c =
 
 pub returns-then-pen : goal.returns-then-pen
 returns-then-pen c =
-    let w = c.requires.waiting.0 c.if-pen.true in
-    (
+    let w = c.requires.waiting.0 c.if-pen.true in (
       λ (size : ℕ) (h : 4 ≤ size).
           subst (λ (xs : List ℕ). Wrote (with_values xs (part c.args.bam.now c.args.at size) ∷ []) c.args.pen.end c.args.out.now c.copy_array-end.result c.copy_array-end.new.out)
           w.1 (c.copy_array-end.ensures size h),

@@ -31,8 +31,7 @@ returns-then-number-eq-PAIRED c =
     let edit : TagEdit = by_window c.args.lo c.args.after.now c.args.marks.now c.args.seq.now in
     let meant : Means = means (edit) c.args.mm.now c.args.ml.now c.args.bases in
     let field : Field = part c.args.bam.now c.args.at c.args.size in
-    let three : c.args.number ≡ 3 = omega arith in
-    (
+    let three : c.args.number ≡ 3 = omega arith in (
       wrote_as (applied (queue_by (meant) c.args.number) (field)) (with_text (text_in (edit true c.args.mm.now c.args.ml.now)) (field) ∷ [])
           c.args.pen.end c.put_text.result.end c.args.out.now _ (by_paired (meant) c.args.number (field) c.requires.size_value (three))
           (c.put_text.ensures.0 c.args.size c.requires.size_in_bounds.1),
@@ -55,8 +54,7 @@ returns-then-number-eq-VALUES c =
     let edit : TagEdit = by_window c.args.lo c.args.after.now c.args.marks.now c.args.seq.now in
     let meant : Means = means (edit) c.args.mm.now c.args.ml.now c.args.bases in
     let field : Field = part c.args.bam.now c.args.at c.args.size in
-    let four : c.args.number ≡ 4 = omega arith in
-    (
+    let four : c.args.number ≡ 4 = omega arith in (
       wrote_as (applied (queue_by (meant) c.args.number) (field)) (with_values (values_in (edit true c.args.mm.now c.args.ml.now)) (field) ∷ [])
           c.args.pen.end c.put_array.result.end c.args.out.now _ (by_values (meant) c.args.number (field) c.requires.size_value (four))
           (c.put_array.ensures.0 c.args.size c.requires.size_in_bounds.1),
@@ -77,8 +75,7 @@ returns c =
     let meant : Means = means (edit) c.args.mm.now c.args.ml.now c.args.bases in
     let field : Field = part c.args.bam.now c.args.at c.args.size in
     let neither : (c.args.number ≡ 3 → ⊥) × (c.args.number ≡ 4 → ⊥) = (λ e. absurd (omega (arith, e)), λ e. absurd (omega (arith, e))) in
-    let n = neither in
-    (
+    let n = neither in (
       wrote_as (applied (queue_by (meant) c.args.number) (field)) (applied (queue_by (means (edit) [] [] c.args.bases) c.args.number) (field))
           c.args.pen.end c.put_other-end.result c.args.out.now _ (applied_other (edit) c.args.mm.now c.args.ml.now c.args.bases c.args.number (field) n.0 n.1) c.put_other-end.ensures,
       c.requires.waiting,

@@ -21,8 +21,7 @@ copy_text-end-requires c =
 
 pub returns-then-pen : goal.returns-then-pen
 returns-then-pen c =
-    let w = c.requires.waiting.1 c.if-pen.true in
-    (
+    let w = c.requires.waiting.1 c.if-pen.true in (
       λ (size : ℕ) (h : 4 ≤ size).
           subst (λ (xs : List ℕ). Wrote (with_text xs (part c.args.bam.now c.args.at size) ∷ []) c.args.pen.end c.args.out.now c.copy_text-end.result c.copy_text-end.new.out)
           w.1 (c.copy_text-end.ensures size h),

@@ -18,13 +18,12 @@ use Rattle.record_rows.proofs.RowLaws.{fine_closed, fine_never_refused, fine_sho
 use Rattle.record_rows.proofs.put_tag.Goals as goal
 
 pub edit_groups-edited-requires : goal.edit_groups-edited-requires
-edit_groups-edited-requires c =
-    (
-      c.requires.seq_len_bound.0,
-      c.requires.seq_len_bound.1,
-      c.requires.seq_len_bound.2,
-      fine_closed (window_edit c.args.lo c.args.after.now c.args.marks.now) c.args.has_ml c.args.seq.now c.args.mm.now c.args.ml.now c.requires.ml_value,
-    )
+edit_groups-edited-requires c = (
+  c.requires.seq_len_bound.0,
+  c.requires.seq_len_bound.1,
+  c.requires.seq_len_bound.2,
+  fine_closed (window_edit c.args.lo c.args.after.now c.args.marks.now) c.args.has_ml c.args.seq.now c.args.mm.now c.args.ml.now c.requires.ml_value,
+)
 
 pub returns-in_default : goal.returns-in_default
 returns-in_default c =
@@ -44,7 +43,10 @@ returns c =
     let room = c.at_most-room.result in
     let part = mid_of room (length c.args.out.now - room) c.args.out.now in
     let short = fine_short e c.args.has_ml c.args.seq.now c.args.mm.now c.args.ml.now c.requires.ml_value c.requires.seq_len_bound.3 part c.args.work.now c.edit_groups-edited.new.out c.edit_groups-edited.new.ml_out c.in-To.end
-    (walked _ c.in-To.is) in record { text_value = λ (t : Tag) (k : edited e c.args.has_ml c.args.seq.now c.args.mm.now c.args.ml.now ≡ done t).
+    (walked _ c.in-To.is) in record {
+      text_value = λ (t : Tag) (k : edited e c.args.has_ml c.args.seq.now c.args.mm.now c.args.ml.now ≡ done t).
           let put = fine_stored e c.args.has_ml c.args.seq.now c.args.mm.now c.args.ml.now c.requires.ml_value c.requires.seq_len_bound.3 part c.args.work.now c.edit_groups-edited.new.out c.edit_groups-edited.new.ml_out c.in-To.end
           (walked _ c.in-To.is) t k in
-          (omega (arith, put.0), omega (arith, put.1), part_put c.args.out.now t.text c.edit_groups-edited.new.out c.args.at room (omega (arith, c.at_most-room.ensures)) put.2, put.3); text_in_bounds = (omega (arith, short.0), omega (arith, short.1)) }
+          (omega (arith, put.0), omega (arith, put.1), part_put c.args.out.now t.text c.edit_groups-edited.new.out c.args.at room (omega (arith, c.at_most-room.ensures)) put.2, put.3);
+      text_in_bounds = (omega (arith, short.0), omega (arith, short.1));
+    }

@@ -19,13 +19,12 @@ use Rattle.record_rows.proofs.RowLaws.{fine_closed, fine_never_refused, fine_sho
 use Rattle.record_rows.proofs.put_values.Goals as goal
 
 pub edit_groups-edited-requires : goal.edit_groups-edited-requires
-edit_groups-edited-requires c =
-    (
-      c.requires.seq_len_bound.0,
-      c.requires.seq_len_bound.1,
-      c.requires.seq_len_bound.2,
-      fine_closed (window_edit c.args.lo c.args.after.now c.args.marks.now) true c.args.seq.now c.args.mm.now c.args.ml.now c.requires.ml_value,
-    )
+edit_groups-edited-requires c = (
+  c.requires.seq_len_bound.0,
+  c.requires.seq_len_bound.1,
+  c.requires.seq_len_bound.2,
+  fine_closed (window_edit c.args.lo c.args.after.now c.args.marks.now) true c.args.seq.now c.args.mm.now c.args.ml.now c.requires.ml_value,
+)
 
 pub returns-in_default : goal.returns-in_default
 returns-in_default c =
@@ -45,7 +44,10 @@ returns c =
     let room = c.at_most-start.result in
     let part = mid_of room (length c.args.out.now - room) c.args.out.now in
     let short = fine_short e true c.args.seq.now c.args.mm.now c.args.ml.now c.requires.ml_value refl c.args.work.now part c.edit_groups-edited.new.out c.edit_groups-edited.new.ml_out c.in-To.end
-    (walked _ c.in-To.is) in record { text_value = λ (t : Tag) (k : edited e true c.args.seq.now c.args.mm.now c.args.ml.now ≡ done t).
+    (walked _ c.in-To.is) in record {
+      text_value = λ (t : Tag) (k : edited e true c.args.seq.now c.args.mm.now c.args.ml.now ≡ done t).
           let put = fine_stored e true c.args.seq.now c.args.mm.now c.args.ml.now c.requires.ml_value refl c.args.work.now part c.edit_groups-edited.new.out c.edit_groups-edited.new.ml_out c.in-To.end
           (walked _ c.in-To.is) t k in
-          (omega (arith, put.0), omega (arith, put.1), part_put c.args.out.now t.ml c.edit_groups-edited.new.ml_out c.args.at room (omega (arith, c.at_most-start.ensures)) put.3, put.2); text_in_bounds = (omega (arith, short.0), omega (arith, short.1)) }
+          (omega (arith, put.0), omega (arith, put.1), part_put c.args.out.now t.ml c.edit_groups-edited.new.ml_out c.args.at room (omega (arith, c.at_most-start.ensures)) put.3, put.2);
+      text_in_bounds = (omega (arith, short.0), omega (arith, short.1));
+    }

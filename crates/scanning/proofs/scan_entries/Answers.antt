@@ -6,7 +6,6 @@ use lib.ListN.{drop, length, length-drop, take, set}
 use lib.Seq.{length-take-le}
 use Rattle.lent.proofs.Outcome.{on_done_refused}
 use Rattle.lent.specs.Outcome.{done, on_done, refused}
-use Rattle.samtags.specs.Bytes.{comma}
 use Rattle.samtags.specs.Decimal.{value}
 use Rattle.samtags.specs.Reading.{nowhere, read_entry, read_spots}
 use Rattle.samtags.specs.Spots.{tracked}

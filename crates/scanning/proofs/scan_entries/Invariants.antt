@@ -4,10 +4,8 @@ use mathlib.Core.Path.{◌≡◌}
 use Prim.Native.Nat.{◌+◌, ◌-◌, ◌≤◌, ℕ}
 use mathlib.Core.List.{List}
 use lib.ListN.{drop, length}
-use Rattle.lent.specs.Outcome.{done, on_done, Outcome}
-use Rattle.samtags.specs.Decimal.{value}
+use Rattle.lent.specs.Outcome.{on_done, Outcome}
 use Rattle.samtags.specs.Reading.{nowhere, read_spots}
-use Rattle.samtags.specs.Spots.{tracked}
 use Rattle.samtags.specs.Text.{led_by, up_to}
 use Rattle.fields.specs.Fields.{field_of}
 use Rattle.places.specs.Walk.{tracked_from}

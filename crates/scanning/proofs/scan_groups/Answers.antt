@@ -1,5 +1,5 @@
 use mathlib.Core.Path.{◌∙◌, ◌≡◌, ap, refl, subst, sym}
-use Prim.Native.Nat.{◌-◌, ◌<◌, ◌≤◌}
+use Prim.Native.Nat.{◌<◌, ◌≤◌}
 use native.Mathlib.Omega.{arith}
 use lib.ListN.{drop, length}
 use Rattle.lent.proofs.Outcome.{on_done_refused}
@@ -53,8 +53,7 @@ loop-c-preserved c =
     let inside : c.loop-c.c.at < length c.args.text.now = omega arith in
     let x = group _ c.in-To.is in
     let far = ahead c.args.text.now c.loop-c.c.at (inside)
-    c.requires.3 in
-    (
+    c.requires.3 in (
       omega (arith, x.0, far),
       x.1,
       omega (arith, x.0, x.2, c.loop-c.invariant.2),

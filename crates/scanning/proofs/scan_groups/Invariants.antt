@@ -6,7 +6,7 @@ use mathlib.Core.Bool.{Bool}
 use mathlib.Core.List.{List}
 use lib.ListN.{drop, length}
 use Rattle.lent.specs.Outcome.{on_done, Outcome}
-use Rattle.samtags.specs.Reading.{nowhere, read_group, read_groups}
+use Rattle.samtags.specs.Reading.{nowhere, read_groups}
 use Rattle.samtags.specs.Text.{closed_by}
 use Rattle.scanning.specs.Scanning.{columns, finished, Columns, Finished}
 use Rattle.scanning.specs.declared.Cursor.{Cursor}

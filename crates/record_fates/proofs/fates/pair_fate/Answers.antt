@@ -94,13 +94,12 @@ slice_bounds-values-start c =
     omega (arith, ml_long)
 
 pub accepts-accepted-requires : goal.accepts-accepted-requires
-accepts-accepted-requires c =
-    (
-      c.requires.size_in_bounds.3,
-      text_bound c.args.bam.now c.args.at c.args.size c.requires.size_in_bounds.0 c.requires.size_in_bounds.1 (λ q. omega arith) (omega arith) c.requires.size_in_bounds.2,
-      array_bound c.args.bam.now c.args.ml_at c.args.ml_size c.requires.ml_size_in_bounds.0 c.requires.ml_size_in_bounds.1 (λ q. omega arith) (omega arith) (omega arith) c.requires.ml_size_in_bounds.2,
-      refl,
-    )
+accepts-accepted-requires c = (
+  c.requires.size_in_bounds.3,
+  text_bound c.args.bam.now c.args.at c.args.size c.requires.size_in_bounds.0 c.requires.size_in_bounds.1 (λ q. omega arith) (omega arith) c.requires.size_in_bounds.2,
+  array_bound c.args.bam.now c.args.ml_at c.args.ml_size c.requires.ml_size_in_bounds.0 c.requires.ml_size_in_bounds.1 (λ q. omega arith) (omega arith) (omega arith) c.requires.ml_size_in_bounds.2,
+  refl,
+)
 
 pub returns-then-accepted : goal.returns-then-accepted
 returns-then-accepted c =
