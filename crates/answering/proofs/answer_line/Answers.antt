@@ -15,11 +15,10 @@ use Rattle.answering.proofs.answer_line.Goals as goal
 
 pub mask_line-requires : goal.mask_line-requires
 mask_line-requires c =
-    let fits : length c.body_of-body.result.now ≤ 65536 = subst (λ (l : List ℕ). length l ≤ 65536) (sym c.body_of-body.ensures) (body_fits c.args.line.now 65536 c.requires.1) in
-    (
-  c.requires.0,
-  fits,
-)
+    let fits : length c.body_of-body.result.now ≤ 65536 = subst (λ (l : List ℕ). length l ≤ 65536) (sym c.body_of-body.ensures) (body_fits c.args.line.now 65536 c.requires.1) in (
+      c.requires.0,
+      fits,
+    )
 
 pub returns-then-masks : goal.returns-then-masks
 returns-then-masks c =
@@ -32,11 +31,10 @@ returns-then-masks c =
 
 pub drop_line-requires : goal.drop_line-requires
 drop_line-requires c =
-    let fits : length c.body_of-body.result.now ≤ 65536 = subst (λ (l : List ℕ). length l ≤ 65536) (sym c.body_of-body.ensures) (body_fits c.args.line.now 65536 c.requires.1) in
-    (
-  c.requires.0,
-  fits,
-)
+    let fits : length c.body_of-body.result.now ≤ 65536 = subst (λ (l : List ℕ). length l ≤ 65536) (sym c.body_of-body.ensures) (body_fits c.args.line.now 65536 c.requires.1) in (
+      c.requires.0,
+      fits,
+    )
 
 pub returns-then-drops : goal.returns-then-drops
 returns-then-drops c =
@@ -51,11 +49,10 @@ returns-then-drops c =
 
 pub cut_line-requires : goal.cut_line-requires
 cut_line-requires c =
-    let fits : length c.body_of-body.result.now ≤ 65536 = subst (λ (l : List ℕ). length l ≤ 65536) (sym c.body_of-body.ensures) (body_fits c.args.line.now 65536 c.requires.1) in
-    (
-  c.requires.0,
-  fits,
-)
+    let fits : length c.body_of-body.result.now ≤ 65536 = subst (λ (l : List ℕ). length l ≤ 65536) (sym c.body_of-body.ensures) (body_fits c.args.line.now 65536 c.requires.1) in (
+      c.requires.0,
+      fits,
+    )
 
 pub returns-then-cuts : goal.returns-then-cuts
 returns-then-cuts c =

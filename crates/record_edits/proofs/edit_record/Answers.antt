@@ -14,16 +14,19 @@ pub pair_fate-mm-requires : goal.pair_fate-mm-requires
 pair_fate-mm-requires c =
     let x = c.args.bam.now in
     let at = c.args.ats.now in
-    let size = c.args.sizes.now in record { size_in_bounds = (
+    let size = c.args.sizes.now in record {
+      size_in_bounds = (
         (c.requires.from_in_bounds.2 0 (omega arith)).1,
         sound x c.args.from at size c.args.bases c.requires.by_index.0 c.requires.from_in_bounds.1 c.requires.from_in_bounds.2 c.requires.by_index.1 0 (omega arith),
         ap text_fits (c.requires.from_in_bounds.2 0 (omega arith)).0 ∙ mm_fits x c.args.from at size c.args.bases c.requires.by_index.0 c.requires.from_in_bounds.1 c.requires.from_in_bounds.2 c.requires.by_index.1,
         c.requires.from_in_bounds.3,
-      ); ml_size_in_bounds = (
+      );
+      ml_size_in_bounds = (
         (c.requires.from_in_bounds.2 1 (omega arith)).1,
         sound x c.args.from at size c.args.bases c.requires.by_index.0 c.requires.from_in_bounds.1 c.requires.from_in_bounds.2 c.requires.by_index.1 1 (omega arith),
         ap array_fits (c.requires.from_in_bounds.2 1 (omega arith)).0 ∙ ml_fits x c.args.from at size c.args.bases c.requires.by_index.0 c.requires.from_in_bounds.1 c.requires.from_in_bounds.2 c.requires.by_index.1,
-      ) }
+      );
+    }
 
 pub alone_fate-am-requires : goal.alone_fate-am-requires
 alone_fate-am-requires c =
@@ -48,27 +51,29 @@ alone_fate-bm-requires c =
     )
 
 pub paired_text-text-requires : goal.paired_text-text-requires
-paired_text-text-requires c =
-    (
-      (c.requires.from_in_bounds.2 0 (omega arith)).1,
-      text_slice c.args.bam.now c.args.from c.args.ats.now c.args.sizes.now c.args.bases c.requires.by_index.0 c.requires.from_in_bounds.1 c.requires.from_in_bounds.2 c.requires.by_index.1
-          (guarded c.args.possible (by_window c.args.lo c.args.after.now c.args.marks.now c.args.seq.now)) c.pair_fate-mm.result c.pair_fate-mm.ensures,
-    )
+paired_text-text-requires c = (
+  (c.requires.from_in_bounds.2 0 (omega arith)).1,
+  text_slice c.args.bam.now c.args.from c.args.ats.now c.args.sizes.now c.args.bases c.requires.by_index.0 c.requires.from_in_bounds.1 c.requires.from_in_bounds.2 c.requires.by_index.1
+      (guarded c.args.possible (by_window c.args.lo c.args.after.now c.args.marks.now c.args.seq.now)) c.pair_fate-mm.result c.pair_fate-mm.ensures,
+)
 
 pub paired_values-values-requires : goal.paired_values-values-requires
-paired_values-values-requires c =
-    (
-      (c.requires.from_in_bounds.2 1 (omega arith)).1,
-      values_slice c.args.bam.now c.args.from c.args.ats.now c.args.sizes.now c.args.bases c.requires.by_index.0 c.requires.from_in_bounds.1 c.requires.from_in_bounds.2 c.requires.by_index.1
-          (guarded c.args.possible (by_window c.args.lo c.args.after.now c.args.marks.now c.args.seq.now)) c.pair_fate-mm.result c.pair_fate-mm.ensures,
-    )
+paired_values-values-requires c = (
+  (c.requires.from_in_bounds.2 1 (omega arith)).1,
+  values_slice c.args.bam.now c.args.from c.args.ats.now c.args.sizes.now c.args.bases c.requires.by_index.0 c.requires.from_in_bounds.1 c.requires.from_in_bounds.2 c.requires.by_index.1
+      (guarded c.args.possible (by_window c.args.lo c.args.after.now c.args.marks.now c.args.seq.now)) c.pair_fate-mm.result c.pair_fate-mm.ensures,
+)
 
 pub write_record-requires : goal.write_record-requires
 write_record-requires c =
-    record { from_in_bounds = (c.requires.from_in_bounds.0, c.requires.from_in_bounds.3, c.paired_text-text.ensures.1, c.paired_values-values.ensures.1, bases_fit c.args.bam.now c.args.from c.args.ats.now c.args.sizes.now c.args.bases c.requires.by_index.0 c.requires.from_in_bounds.1 c.requires.from_in_bounds.2 c.requires.by_index.1); bam_value = c.requires.from_in_bounds.1; ready = edit_ready c.args.bam.now c.args.from c.args.ats.now c.args.sizes.now c.args.bases c.requires.by_index.0 c.requires.from_in_bounds.1 c.requires.from_in_bounds.2 c.requires.by_index.1
-            c.args.possible (by_window c.args.lo c.args.after.now c.args.marks.now c.args.seq.now) c.args.set c.pair_fate-mm.result c.alone_fate-am.result c.alone_fate-bm.result c.plan_of-plan.result c.any_goes-went.result
-            c.paired_text-text.result.now c.paired_values-values.result.now c.pair_fate-mm.ensures c.alone_fate-am.ensures c.alone_fate-bm.ensures c.plan_of-plan.ensures c.any_goes-went.ensures
-            c.paired_text-text.ensures.0 c.paired_values-values.ensures.0 }
+    record {
+      from_in_bounds = (c.requires.from_in_bounds.0, c.requires.from_in_bounds.3, c.paired_text-text.ensures.1, c.paired_values-values.ensures.1, bases_fit c.args.bam.now c.args.from c.args.ats.now c.args.sizes.now c.args.bases c.requires.by_index.0 c.requires.from_in_bounds.1 c.requires.from_in_bounds.2 c.requires.by_index.1);
+      bam_value = c.requires.from_in_bounds.1;
+      ready = edit_ready c.args.bam.now c.args.from c.args.ats.now c.args.sizes.now c.args.bases c.requires.by_index.0 c.requires.from_in_bounds.1 c.requires.from_in_bounds.2 c.requires.by_index.1
+          c.args.possible (by_window c.args.lo c.args.after.now c.args.marks.now c.args.seq.now) c.args.set c.pair_fate-mm.result c.alone_fate-am.result c.alone_fate-bm.result c.plan_of-plan.result c.any_goes-went.result
+          c.paired_text-text.result.now c.paired_values-values.result.now c.pair_fate-mm.ensures c.alone_fate-am.ensures c.alone_fate-bm.ensures c.plan_of-plan.ensures c.any_goes-went.ensures
+          c.paired_text-text.ensures.0 c.paired_values-values.ensures.0;
+    }
 
 pub returns : goal.returns
 returns c =

@@ -20,12 +20,11 @@ loop-place-init c = (c.requires.0, refl, refl, refl, refl, refl, refl, omega ari
 pub answer_line-answered-requires : goal.answer_line-answered-requires
 answer_line-answered-requires c =
     let within : c.loop-place.place + length c.next_line-line.result.now ≤ length c.args.input.now = subst (λ (l : List ℕ). c.loop-place.place + length l ≤ length c.args.input.now)
-    (sym c.next_line-line.ensures) (up_to_within 10 c.args.input.now c.loop-place.place (omega arith)) in
-    (
-  c.loop-place.invariant.0,
-  omega
-      (arith, c.requires.1, within),
-)
+    (sym c.next_line-line.ensures) (up_to_within 10 c.args.input.now c.loop-place.place (omega arith)) in (
+      c.loop-place.invariant.0,
+      omega
+          (arith, c.requires.1, within),
+    )
 
 pub put_answer-requires : goal.put_answer-requires
 put_answer-requires c =
@@ -111,12 +110,11 @@ loop-place-preserved c =
 pub put_closing-requires : goal.put_closing-requires
 put_closing-requires c =
     let rows : Memory = memory c.loop-place.seq c.loop-place.mm c.loop-place.ml c.loop-place.held in
-    let roomy : c.loop-place.end + length (said_from c.args.has_ml c.args.input.now c.loop-place.place (rows)) ≤ 81925 = omega (arith, c.requires.3, c.loop-place.invariant.2) in
-    (
-  c.loop-place.invariant.0,
-  omega
-      (arith, roomy),
-)
+    let roomy : c.loop-place.end + length (said_from c.args.has_ml c.args.input.now c.loop-place.place (rows)) ≤ 81925 = omega (arith, c.requires.3, c.loop-place.invariant.2) in (
+      c.loop-place.invariant.0,
+      omega
+          (arith, roomy),
+    )
 
 pub shape_of-seq : goal.shape_of-seq
 shape_of-seq c = c.loop-place.invariant.3

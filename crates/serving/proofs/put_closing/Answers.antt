@@ -30,8 +30,7 @@ put_line-after_mm-requires c =
       c.put_line-after_seq.ensures.0,
       line_length 83 81 (take (c.args.lengths.seq - 0) c.args.seq.now),
       length-take (c.args.lengths.seq - 0) c.args.seq.now,
-    ) in
-    (
+    ) in (
       omega (arith, first_end),
       omega
           (arith, c.requires.0.1, length-take (c.args.lengths.mm - 0) c.args.mm.now),
@@ -60,8 +59,7 @@ put_values_line-requires c =
       c.put_line-after_mm.ensures.0,
       line_length 77 77 (take (c.args.lengths.mm - 0) c.args.mm.now),
       length-take (c.args.lengths.mm - 0) c.args.mm.now,
-    ) in
-    (
+    ) in (
       omega (arith, second_end),
       omega
           (arith, (ml_fits c.args.has_ml c.args.seq.now c.args.mm.now c.args.ml.now c.args.lengths c.requires.0 c.if-has_ml.true).0, length-take (c.args.lengths.ml - 0) c.args.ml.now),

@@ -29,9 +29,8 @@ returns-then-reverse c =
     )
 
 pub returns : goal.returns
-returns c =
-    (
-      sym c.in-Done.is,
-      ap (λ (w : Bool). places_as_stored (reading.Done c.in-Done.groups c.in-Done.calls) w c.args.n c.args.places.now) (sym c.if-reverse.false)
-          ∙ ap (λ (r : Reading). places_as_stored r c.args.reverse c.args.n c.args.places.now) (sym c.in-Done.is),
-    )
+returns c = (
+  sym c.in-Done.is,
+  ap (λ (w : Bool). places_as_stored (reading.Done c.in-Done.groups c.in-Done.calls) w c.args.n c.args.places.now) (sym c.if-reverse.false)
+      ∙ ap (λ (r : Reading). places_as_stored r c.args.reverse c.args.n c.args.places.now) (sym c.in-Done.is),
+)

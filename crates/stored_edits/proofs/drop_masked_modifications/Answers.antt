@@ -32,8 +32,7 @@ mask_with-requires c =
       leb-true c.args.after_bases 1024 (and_true_r (leb c.args.before_bases 1024) (leb c.args.after_bases 1024) both),
     )) in
     let o = ordered in
-    let few = small in
-    (
+    let few = small in (
       o.first_domain,
       omega (arith, o.first_exact),
       omega (arith, few.0, c.few_marks-first.ensures.0),
@@ -52,8 +51,7 @@ pub mask_with-requires-2 : goal.mask_with-requires-2
 mask_with-requires-2 c =
     let kept : order_two c.args.has_ml c.args.before_bases c.args.before.now c.args.after_bases c.args.after.now c.args.mm.now c.args.ml.now ≡ done tt = sym c.two_in_order-found.ensures ∙ ap order_says c.in-Kept.is in
     let ordered : In-two (length c.args.before.now) c.args.before_bases (length c.args.after.now) c.args.after_bases = two_passed c.args.has_ml c.args.before_bases c.args.before.now c.args.after_bases c.args.after.now c.args.mm.now c.args.ml.now (kept) in
-    let o = ordered in
-    (
+    let o = ordered in (
       o.first_domain,
       omega (arith, o.first_exact),
       omega (arith, o.first_domain, c.no_marks-first.ensures.0),

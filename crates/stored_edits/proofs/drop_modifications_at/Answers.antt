@@ -24,8 +24,7 @@ pub drop_with-requires : goal.drop_with-requires
 drop_with-requires c =
     let kept : order_one c.args.has_ml c.args.bases c.args.packed.now c.args.mm.now c.args.ml.now ≡ done tt = sym c.stored_in_order-found.ensures ∙ ap order_says c.in-Kept.is in
     let ordered : In-stored c.args.has_ml (length c.args.packed.now) c.args.bases (length c.args.mm.now) (length c.args.ml.now) = stored_passed c.args.has_ml (length c.args.packed.now) c.args.bases (length c.args.mm.now) (length c.args.ml.now) (kept) in
-    let o = ordered in
-    (
+    let o = ordered in (
       omega (arith, o.bytes_exact),
       omega (arith, o.bases_domain, c.few_marks-row.ensures.0),
       one_in_domain c.args.reverse c.args.has_ml c.args.bases c.args.packed.now c.args.mm.now c.args.ml.now (kept),
@@ -43,8 +42,7 @@ pub drop_with-requires-2 : goal.drop_with-requires-2
 drop_with-requires-2 c =
     let kept : order_one c.args.has_ml c.args.bases c.args.packed.now c.args.mm.now c.args.ml.now ≡ done tt = sym c.stored_in_order-found.ensures ∙ ap order_says c.in-Kept.is in
     let ordered : In-stored c.args.has_ml (length c.args.packed.now) c.args.bases (length c.args.mm.now) (length c.args.ml.now) = stored_passed c.args.has_ml (length c.args.packed.now) c.args.bases (length c.args.mm.now) (length c.args.ml.now) (kept) in
-    let o = ordered in
-    (
+    let o = ordered in (
       omega (arith, o.bytes_exact),
       omega (arith, o.bases_domain, c.no_marks-row.ensures.0),
       one_in_domain c.args.reverse c.args.has_ml c.args.bases c.args.packed.now c.args.mm.now c.args.ml.now (kept),

@@ -11,12 +11,11 @@ pub loop-i-init : goal.loop-i-init
 loop-i-init c = (omega arith, refl, refl)
 
 pub loop-i-preserved : goal.loop-i-preserved
-loop-i-preserved c =
-    (
-      omega arith,
-      length-set c.loop-i.places c.loop-i.i c.mirror.result ∙ c.loop-i.invariant.1,
-      changed_turn (λ (j p : ℕ). mirrored c.args.n p) 0 c.args.places.now c.loop-i.places c.loop-i.i _ c.loop-i.invariant.2 (omega arith) c.mirror.ensures,
-    )
+loop-i-preserved c = (
+  omega arith,
+  length-set c.loop-i.places c.loop-i.i c.mirror.result ∙ c.loop-i.invariant.1,
+  changed_turn (λ (j p : ℕ). mirrored c.args.n p) 0 c.args.places.now c.loop-i.places c.loop-i.i _ c.loop-i.invariant.2 (omega arith) c.mirror.ensures,
+)
 
 pub returns : goal.returns
 returns c =

@@ -23,8 +23,7 @@ use Rattle.transcript.proofs.open_session.Goals as goal
 pub put_answer-requires : goal.put_answer-requires
 put_answer-requires c =
     let read : reading_says c.check_tag-read.result ≡ on_done counts_of (read_tag c.args.has_ml c.args.bases.now c.args.text.now (take c.args.values c.args.ml.now)) = c.check_tag-read.ensures ∙ ap (λ (n : ℕ). on_done counts_of (read_tag c.args.has_ml c.args.bases.now c.args.text.now (take n c.args.ml.now)))
-    (sub-zero c.args.values) in
-    (
+    (sub-zero c.args.values) in (
       omega arith,
       omega (
         arith,

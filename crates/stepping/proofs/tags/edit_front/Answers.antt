@@ -18,12 +18,11 @@ few true n k row e h = omega (arith, e, h, length-take n row)
 few false n k row e h = omega arith
 
 pub edit_in_place-requires : goal.edit_in_place-requires
-edit_in_place-requires c =
-    (
-      c.requires.0,
-      omega (arith, c.requires.1, length-take (c.args.text - 0) c.args.mm.now),
-      few c.args.has_ml (c.values_taken-taken.result - 0) c.args.values c.args.ml.now (omega (arith, c.values_taken-taken.ensures)) c.requires.2,
-    )
+edit_in_place-requires c = (
+  c.requires.0,
+  omega (arith, c.requires.1, length-take (c.args.text - 0) c.args.mm.now),
+  few c.args.has_ml (c.values_taken-taken.result - 0) c.args.values c.args.ml.now (omega (arith, c.values_taken-taken.ensures)) c.requires.2,
+)
 
 pub returns : goal.returns
 returns c =

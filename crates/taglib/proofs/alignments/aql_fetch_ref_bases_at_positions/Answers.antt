@@ -11,8 +11,7 @@ use Rattle.taglib.proofs.alignments.aql_fetch_ref_bases_at_positions.Goals as go
 
 pub returns : goal.returns
 returns c =
-    let o = fetched_bases c.args.ref_positions.now c.args.reference.now (length c.args.bases.now) in
-    (
+    let o = fetched_bases c.args.ref_positions.now c.args.reference.now (length c.args.bases.now) in (
       number_handed length o c.fetch_ref_bases_at_positions-answer.ensures.0 c.written.ensures.0,
       told_handed (λ m. m) length o c.args.n.now c.fetch_ref_bases_at_positions-answer.ensures.0 c.written.ensures.1,
       c.fetch_ref_bases_at_positions-answer.ensures.1,

@@ -11,8 +11,7 @@ use Rattle.taglib.proofs.evidences.aql_gate_to_informative.Goals as goal
 
 pub returns : goal.returns
 returns c =
-    let was = c.args.n.now in
-    (
+    let was = c.args.n.now in (
       c.written.ensures.0 ∙ ap number_of c.gate_to_informative-answer.ensures.0,
       c.written.ensures.1 ∙ ap (λ o. told (λ m. m) o was) c.gate_to_informative-answer.ensures.0,
       c.gate_to_informative-answer.ensures.1,

@@ -11,8 +11,7 @@ use Rattle.taglib.proofs.evidences.aql_truncate.Goals as goal
 
 pub returns : goal.returns
 returns c =
-    let was = c.args.n.now in
-    (
+    let was = c.args.n.now in (
       c.written.ensures.0 ∙ ap number_of c.truncate-answer.ensures.0,
       c.written.ensures.1 ∙ ap (λ o. told (λ m. m) o was) c.truncate-answer.ensures.0,
       c.truncate-answer.ensures.1,

@@ -1,5 +1,4 @@
 use Rattle.taglib.proofs.rewriting_tags.aql_trim_clipped_modifications.Goals as goal
-
 -- `aql_trim_clipped_modifications` passes the given start to the call and hands on the answer; the rows are as the call left them.
 -- Assumes nothing.
 use borrow.Author.Rules.{rules}

@@ -1,5 +1,4 @@
 use Rattle.taglib.proofs.stored_rewriting.aql_stored_drop_masked_modifications.Goals as goal
-
 -- `aql_stored_drop_masked_modifications` hands on the answer; the rows are as the call left them.
 -- Assumes nothing.
 use borrow.Author.Rules.{rules}

@@ -1,5 +1,4 @@
 use Rattle.taglib.proofs.stored_rewriting.aql_stored_drop_modifications_at.Goals as goal
-
 -- `aql_stored_drop_modifications_at` hands on the answer; the rows are as the call left them.
 -- Assumes nothing.
 use borrow.Author.Rules.{rules}

@@ -1,5 +1,4 @@
 use Rattle.taglib.proofs.stored_rewriting.aql_stored_trim_clipped_modifications.Goals as goal
-
 -- `aql_stored_trim_clipped_modifications` takes the start from two numbers, and hands on the answer; the rows are as the call left them.
 -- Assumes nothing.
 use borrow.Author.Rules.{rules}
