@@ -1,6 +1,8 @@
 // One line of `tagedit` after the opening: its step is done on the session's own rows and answered. A support crate: its functions may have a `requires`.
 //
 // The places of a mask or a drop are written directly from the line into a row, so that no list of them is held.
+#![tactic(auto)]
+
 ghost use Rattle.std.specs.Prelude.{◌≡◌, ◌≤◌, length};
 ghost use Rattle.std.proofs.Math.Option.{none, some};
 ghost use Rattle.samtags.specs.Session.{mask, drop_calls};

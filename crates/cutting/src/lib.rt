@@ -1,5 +1,7 @@
 // A session's cutting step, on lengths that are in order. The tag is edited first: every refusal comes before a byte is written, and leaves the rows
 // unchanged. Then the new SEQ is written. A support crate: its functions may have a `requires`; the public calls are in `session`.
+#![tactic(auto)]
+
 ghost use Rattle.std.specs.Prelude.{◌≡◌, ◌+◌, ◌≤◌};
 ghost use Rattle.samtags.specs.Edits.{cut_to, edited};
 ghost use Rattle.samtags.specs.Session.{cut, held_in, step_in_memory, window};

@@ -1,5 +1,7 @@
 // A session's dropping step, on lengths that are in order. Every refusal comes before a byte is written, and leaves the rows unchanged. SEQ stays. A
 // support crate: its functions may have a `requires`; the public calls are in `session`.
+#![tactic(auto)]
+
 ghost use Rattle.std.specs.Prelude.{◌≡◌, ◌≤◌, length};
 ghost use Rattle.changing.specs.Windows.{Unmarked, window_edit};
 ghost use Rattle.samtags.specs.Edits.{edited};

@@ -1,5 +1,7 @@
 // A session's masking step, on lengths that are in order. The tag is edited first: every refusal comes before a byte is written, and leaves the rows
 // unchanged. Then the new SEQ is written. A support crate: its functions may have a `requires`; the public calls are in `session`.
+#![tactic(auto)]
+
 ghost use Rattle.std.specs.Prelude.{◌≡◌, ◌≤◌, length, take};
 ghost use Rattle.lent.specs.Lists.{among};
 ghost use Rattle.samtags.specs.Edits.{edited, masked_to};

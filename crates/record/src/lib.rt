@@ -8,6 +8,8 @@
 //
 // A call walks over the fields a fixed number of times, and over a tag as the first package's calls do. Its largest locals are three rows of 16,000 bytes, or
 // of 1,024 if both SEQs have at most 1,024 bases.
+#![tactic(auto)]
+
 ghost use Rattle.std.specs.Prelude.{◌≡◌, ◌&&◌, false, true, eqb, leb, drop, length};
 ghost use Rattle.lent.specs.Lists.{is_empty};
 ghost use Rattle.record_fates.specs.Fates.{OpenedAs};

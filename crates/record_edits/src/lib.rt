@@ -1,4 +1,6 @@
 // Removes or edits the tags of a record that was opened. A support crate: its functions may have a `requires`; the public calls are in `record`.
+#![tactic(auto)]
+
 ghost use Rattle.std.specs.Prelude.{◌≡◌, ◌||◌, cond, true, ℕ, ◌+◌, ◌≤◌, eqb, drop, length};
 ghost use Rattle.std.proofs.Math.Option.{none, some};
 ghost use Rattle.lent.specs.Answers.{is_done};

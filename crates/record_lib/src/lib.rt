@@ -3,6 +3,8 @@
 // An export turns C's numbers into the call's arguments: a yes/no byte is yes if it is not 0. It makes the call and passes the answer on: the number is
 // returned, and the new length and whether a field went are written into lent numbers, which a refusal leaves unchanged. No export has a `requires`. The promise
 // of an export is one proposition of specs/RecordContracts, which its `ensures` cites.
+#![tactic(auto)]
+
 ghost use Rattle.std.specs.Prelude.{◌≡◌, Bool, ℕ};
 ghost use Rattle.lent.specs.Outcome.{number_of};
 ghost use Rattle.record_lib.specs.RecordContracts.{CutsRecordInC, DropsRecordInC, MasksRecordInC, as_number};

@@ -1,5 +1,7 @@
 // The three calls on a record that was opened and has a tag, with rows to work in. A support crate: its functions may have a `requires`; the public calls
 // are in `record`.
+#![tactic(auto)]
+
 ghost use Rattle.std.specs.Prelude.{◌≡◌, ◌&&◌, cond, false, true, List, ℕ, ◌+◌, ◌≤◌, eqb, drop, length};
 ghost use Rattle.std.proofs.Math.Option.{some};
 ghost use Rattle.record_steps.specs.Cuts.{cut_turned};

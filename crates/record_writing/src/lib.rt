@@ -2,6 +2,8 @@
 // the same walk measures over an empty row. A support crate: its functions may have a `requires`; the public calls are in `record`.
 //
 // Here: all fields. whole: the record.
+#![tactic(auto)]
+
 pub mod whole;
 
 ghost use Rattle.std.specs.Prelude.{◌≡◌, true, ◌≤◌, length, drop};

@@ -1,5 +1,7 @@
 // Answers the lines of `tagedit`'s input that follow the opening, and writes the session's contents at the end. A support crate: its functions may
 // have a `requires`; the public call is in `transcript`.
+#![tactic(auto)]
+
 ghost use Rattle.std.specs.Prelude.{◌≡◌, ◌+◌, ◌≤◌, length, drop};
 ghost use Rattle.std.proofs.lemmas.List.Edits.{sets};
 ghost use Rattle.samtags.specs.Session.{held_in};

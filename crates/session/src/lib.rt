@@ -11,6 +11,8 @@
 // letter over the whole of SEQ, even if the group lists nothing. So its work is in proportion to text, ML, places, and SEQ times the number of
 // groups. It copies neither text nor ML. Its largest local is a row of 16,000 bytes, one for each base that SEQ may have; for a SEQ of at most 1,024
 // bases a row of 1,024 is cleared instead.
+#![tactic(auto)]
+
 ghost use Rattle.samtags.specs.Session.{cut, drop_calls, mask};
 ghost use Rattle.session.specs.PublicContracts.{Meets, Opens, call, rows};
 

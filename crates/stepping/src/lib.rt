@@ -2,6 +2,8 @@
 // steps are `masking`, `dropping` and `cutting`. A support crate: its functions may have a `requires`; the public calls are in `session`.
 //
 // order: whether a session's lengths are in order. tags: edits the tag at the front of its rows.
+#![tactic(auto)]
+
 pub mod order;
 pub mod tags;
 

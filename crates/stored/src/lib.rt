@@ -5,6 +5,8 @@
 // Places are counted in the stored read: place p of n bases of a reverse read is n - 1 - p in read orientation. Each call answers 1 by the stated number
 // and the lengths of text and ML, then 2 if the packed bytes are not as many as the bases take, and then as the plain call does on the bases in read
 // orientation. The spare half of the last byte is not read, and is written as 0. No public function has a `requires`.
+#![tactic(auto)]
+
 ghost use Rattle.std.specs.Prelude.{◌≡◌, ◌≤◌, length};
 ghost use Rattle.packed.specs.Packed.{bytes_for};
 ghost use Rattle.packed.specs.Stored.{in_read};

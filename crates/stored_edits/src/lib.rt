@@ -3,6 +3,8 @@
 // A stored read is its packed bytes, its stated number of bases, and whether it is reverse; `stored` says how it is counted. Each call answers 1 by the
 // stated numbers and the lengths of text and ML, then 2 if packed bytes are not as many as their bases take, and then as the plain edit does on the
 // bases in read orientation. The tag is in read orientation, as is the edited one. No public function has a `requires`.
+#![tactic(auto)]
+
 ghost use Rattle.std.specs.Prelude.{◌≡◌, true, ◌&&◌, ◌≤◌, leb, length};
 ghost use Rattle.changing.specs.Windows.{Unmarked};
 ghost use Rattle.packed.specs.Packed.{bytes_for};

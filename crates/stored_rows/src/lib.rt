@@ -2,6 +2,8 @@
 // A support crate: its functions may have a `requires`; the public calls are in `stored`, `stored_edits` and `stored_session`.
 //
 // Here: places and starts. order: whether lengths are in order.
+#![tactic(auto)]
+
 pub mod order;
 
 ghost use Rattle.std.specs.Prelude.{◌≡◌, true, [], ◌∷◌, map, ◌-◌, ◌≤◌};

@@ -6,6 +6,8 @@
 // turning SEQ, making the plain step and turning back, so that after every step that is done the spare half of the last byte is 0. A refused step, and
 // a cut of nothing (21), change nothing at all, the spare half neither. 1 if a length is outside the domain; 2 if the packed bytes are fewer than the
 // bases take, and at the opening also if they are more; then as the plain session. No public function has a `requires`.
+#![tactic(auto)]
+
 ghost use Rattle.samtags.specs.Session.{cut, drop_calls, mask};
 ghost use Rattle.session.specs.PublicContracts.{call, rows};
 ghost use Rattle.stored_session.specs.PublicContracts.{MeetsStored, OpensStored};

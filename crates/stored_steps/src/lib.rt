@@ -1,6 +1,8 @@
 // The steps of an edit session on a stored read whose lengths are in order: SEQ is unpacked in read orientation into a row, the plain step is made there,
 // and SEQ is packed back. Every refusal comes before a byte is written, and leaves the rows unchanged. A support crate: its functions may have a
 // `requires`; the public calls are in `stored_session`.
+#![tactic(auto)]
+
 ghost use Rattle.std.specs.Prelude.{◌≡◌, cond, true, ◌&&◌, ◌≤◌, leb, length, take};
 ghost use Rattle.changing.specs.Windows.{Unmarked};
 ghost use Rattle.lent.specs.Lists.{among};

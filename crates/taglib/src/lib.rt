@@ -4,6 +4,8 @@
 // the chemistry. It makes the call and passes the answer on: the scope's number is returned, and the results go into lent numbers, which a refusal
 // leaves unchanged. No export has a `requires`. The promise of an export is one proposition of specs/, in the file of its family (AlignmentContracts
 // and so on). The export's `ensures` cites it.
+#![tactic(auto)]
+
 pub mod alignments;
 pub mod building_tags;
 pub mod duplexes;

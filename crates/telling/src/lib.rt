@@ -3,6 +3,8 @@
 //
 // Here: how many entries are filled. readings: a tag that was read. starts: where a window begins. tags: a written tag. `telling_steps` passes on a
 // session's step, and `telling_strands` the lengths of a duplex answer.
+#![tactic(auto)]
+
 pub mod readings;
 pub mod starts;
 pub mod tags;

@@ -1,4 +1,6 @@
 // A session's lengths as an array of three, and the answer of a step: its new lengths. A support crate of the C library.
+#![tactic(auto)]
+
 ghost use Rattle.std.specs.Prelude.{◌≡◌};
 ghost use Rattle.lent.specs.Outcome.{number_of};
 ghost use Rattle.stepping.specs.Steps.{step_says};

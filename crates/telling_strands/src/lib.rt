@@ -1,4 +1,6 @@
 // The answer of the duplex call: how many entries of each row are filled, as an array of eleven. A support crate of the C library.
+#![tactic(auto)]
+
 ghost use Rattle.std.specs.Prelude.{◌≡◌};
 ghost use Rattle.lent.specs.Outcome.{number_of};
 ghost use Rattle.duplex.specs.Answers.{duplex_says};

@@ -3,6 +3,8 @@
 //
 // Number rules: plain decimals, leading zeros allowed, of any length; an ML value is at most 255, a place and an end of a cut at most 4294967295. A
 // number above its bound makes its line bad, and so does a byte that is no digit.
+#![tactic(auto)]
+
 ghost use Rattle.std.specs.Prelude.{◌≡◌, ◌+◌, ◌≤◌, length, drop, take};
 ghost use Rattle.lent.specs.Outcome.{number_of};
 ghost use Rattle.reading.specs.Answers.{reading_says};
