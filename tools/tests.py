@@ -40,7 +40,7 @@ RT_BUILDS = """#!/bin/bash
 case "$1" in doc | version) exec {rt} "$@" ;; esac
 [ "$1" != all ] || {{ echo all >>{noted}; exit; }}
 name="$(basename "$PWD")"
-echo "$* $name" >>{noted}
+echo "$1 $name" >>{noted}
 mkdir -p out && cp {target}/staticlib/lib$name.a out/
 """
 
