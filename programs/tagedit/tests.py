@@ -4,6 +4,7 @@
 The launcher's own tests run in a copy of the tree with a stand-in for `rt`, which counts its calls and copies the archive that was built here.
 TREE names another tree to try, whose program is built."""
 import concurrent.futures
+import functools
 import os
 import pty
 import re
@@ -192,7 +193,9 @@ class Launcher(unittest.TestCase):
         """After a stop nothing runs on, and the next start need not wait."""
         self.settings["TAKES"] = "60"
         words = ["setsid", self.command, EXAMPLE]
-        with subprocess.Popen(words, env=self.settings, stdout=subprocess.PIPE, stderr=subprocess.PIPE) as running:
+        # a shell without job control ignores the signal in what it starts in the background, and so would the launcher
+        ways = {"env": self.settings, "preexec_fn": functools.partial(signal.signal, signal.SIGINT, signal.SIG_DFL)}
+        with subprocess.Popen(words, stdout=subprocess.PIPE, stderr=subprocess.PIPE, **ways) as running:
             while not self.noted("pid"):
                 time.sleep(0.1)
             os.killpg(running.pid, signal.SIGINT)
