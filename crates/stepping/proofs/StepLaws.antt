@@ -4,9 +4,9 @@ use mathlib.Core.Path.{◌≡◌, refl, sym, ap, ◌∙◌}
 use Prim.Native.Nat.{ℕ, ◌+◌, ◌-◌, ◌≤◌, ◌<◌}
 use native.Mathlib.Omega.{arith}
 use mathlib.Core.Bool.{Bool, true, false, cond}
-use mathlib.Core.List.{List, [], ◌++◌}
+use mathlib.Core.List.{List, [], ◌++◌, append_assoc}
 use lib.ListN.{length, length-drop, length-take, take, drop, take-append-drop}
-use lib.Seq.{length-take-le, take-take}
+use lib.Seq.{drop-drop, length-take-le, take-take}
 use borrow.Author.Tests.{eq-eqb, le-leb, lt-leb, ne_eqb}
 use Rattle.lent.proofs.Filled.{over_none, over_part_front}
 use Rattle.lent.proofs.Lists.{drop_take}

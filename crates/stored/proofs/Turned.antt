@@ -22,6 +22,7 @@ use Rattle.packed.specs.Stored.{in_read}
 use Rattle.reading.specs.Calls.{calls_read, counts_of, group_column, listed_calls, read_calls, start_column}
 use Rattle.reading.specs.PublicContracts.{ChecksTag, ReadsCalls, Tallies}
 use Rattle.reading.specs.declared.Reading.{Reading}
+use Rattle.reading.specs.declared.Reading.TheVariants as reading
 use Rattle.reading.specs.declared.Tallied.{Tallied}
 use Rattle.reading.proofs.Unique.{reading_says_inj, tally_says_inj, calls_unique}
 use Rattle.samtags.specs.Reading.{in_domain, lists, read_tag, tally_tag}

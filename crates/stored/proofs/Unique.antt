@@ -12,6 +12,7 @@ use Rattle.reading.proofs.Unique.{reading_says_inj, tally_says_inj, calls_unique
 use Rattle.reading.specs.Answers.{reading_says, tally_says}
 use Rattle.reading.specs.declared.Reading.{Reading}
 use Rattle.reading.specs.declared.Tallied.{Tallied}
+use Rattle.reading.specs.declared.Tallied.TheVariants as tallied
 use Rattle.stored.specs.PublicContracts.{ChecksStored, Fills, ReadsStored, TalliesStored, Turns, Unpacks}
 
 -- ---- whatever the outcome is

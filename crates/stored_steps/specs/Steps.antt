@@ -1,7 +1,7 @@
 -- The edit session of a stored read: SEQ is packed, as a BAM record stores it. A step turns SEQ into read orientation, edits as the plain session does,
 -- and turns back. Opening reads the tag in the same way.
 -- Assumes nothing.
-use Rattle.std.specs.Prelude.{Bool, true, cond, ◌&&◌, List, length, take, leb, eqb}
+use Rattle.std.specs.Prelude.{ℕ, Bool, true, cond, ◌&&◌, List, length, take, leb, eqb}
 use Rattle.lent.specs.Filled.{over}
 use Rattle.lent.specs.Outcome.{Outcome, done, need, and_then}
 use Rattle.packed.specs.Packed.{bytes_for}

@@ -1,9 +1,9 @@
 use mathlib.Core.Path.{◌∙◌, ap, refl, sym}
 use mathlib.Core.Bool.{true}
-use Prim.Native.Nat.{◌+◌, ℕ}
+use Prim.Native.Nat.{◌+◌, ◌-◌, ℕ}
 use native.Mathlib.Omega.{arith}
 use mathlib.Core.List.{List}
-use lib.ListN.{drop, drop_of_length-le, get_or}
+use lib.ListN.{drop, drop_of_length-le, get_or, length}
 use Rattle.changing.specs.Windows.{stored_at}
 use Rattle.lent.proofs.Lists.{drop_here}
 use Rattle.packed.specs.Stored.{places_in_read}

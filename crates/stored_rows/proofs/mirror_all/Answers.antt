@@ -1,5 +1,5 @@
 use mathlib.Core.Path.{◌∙◌, ◌≡◌, ap, refl}
-use Prim.Native.Nat.{ℕ}
+use Prim.Native.Nat.{◌-◌, ℕ}
 use native.Mathlib.Omega.{arith}
 use lib.ListN.{length, length-set}
 use Rattle.lent.proofs.InPlace.{changed_is_map, changed_up_to}
