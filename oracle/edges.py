@@ -57,8 +57,8 @@ def definition(text, name):
 
 
 def optional(found):
-    """The argument of `some`, None for `none`."""
-    return found[1] if found[0] == "some" else None
+    """The argument of `Some`, None for `None`."""
+    return found[1] if found[0] == "Some" else None
 
 
 def ml_of(found):

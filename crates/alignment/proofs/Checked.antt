@@ -1,5 +1,6 @@
 -- Facts about an alignment that passed the check.
 -- Assumes nothing.
+use Rattle.std.specs.Prelude.{Ok}
 use mathlib.Core.Path.{◌≡◌, sym}
 use mathlib.Core.Bool.{Bool, true, false, ◌&&◌}
 use mathlib.Core.List.{List}
@@ -10,7 +11,7 @@ use lib.IntN.{ℤ}
 use lib.ListN.{length, get_or}
 use borrow.Author.Tests.{leb-true}
 use Rattle.lent.specs.Lists.{every}
-use Rattle.lent.specs.Outcome.{Outcome, done, need}
+use Rattle.lent.specs.Outcome.{Outcome, need}
 use Rattle.lent.proofs.Outcome.{done_inj, need_test, need_rest}
 use Rattle.lent.proofs.Tests.{and_true_l, and_true_r}
 use Rattle.cigar.specs.Cigar.{is_known, places_taken, query_length, reference_span, is_start, start_of, checked}
@@ -18,11 +19,11 @@ use Rattle.walking.specs.Walk.{outset, Reaches}
 use Rattle.cigar.proofs.Signed.{start_small}
 use Rattle.cigar.proofs.Totals.{places_at_most, total_at_most}
 
-module _ (words : List ℕ) (start : ℤ) (n : ℕ) (e : checked words start ≡ done n) where
+module _ (words : List ℕ) (start : ℤ) (n : ℕ) (e : checked words start ≡ Ok n) where
   sizes : Outcome ℕ
-  sizes = need (leb (length words) 65535 && leb (query_length words) 16000) 1 (done (query_length words))
+  sizes = need (leb (length words) 65535 && leb (query_length words) 16000) 1 (Ok (query_length words))
 
-  sized : sizes ≡ done n
+  sized : sizes ≡ Ok n
   unfolding sizes
   sized = need_rest (every is_known words && is_start start) 13 sizes n e
 
@@ -35,12 +36,12 @@ module _ (words : List ℕ) (start : ℤ) (n : ℕ) (e : checked words start ≡
   few =
       leb-true (length words) 65535
       (and_true_l (leb (length words) 65535) (leb (query_length words) 16000)
-      (need_test (leb (length words) 65535 && leb (query_length words) 16000) 1 (done (query_length words)) n sized))
+      (need_test (leb (length words) 65535 && leb (query_length words) 16000) 1 (Ok (query_length words)) n sized))
 
   pub checked_bases : n ≡ query_length words
   unfolding sizes
   checked_bases =
-      sym (done_inj (need_rest (leb (length words) 65535 && leb (query_length words) 16000) 1 (done (query_length words)) n sized))
+      sym (done_inj (need_rest (leb (length words) 65535 && leb (query_length words) 16000) 1 (Ok (query_length words)) n sized))
 
   -- words of 32 bits
   module _ (small : (i : ℕ) → get_or words i 0 < 4294967296) where

@@ -1,11 +1,12 @@
 -- The definitions at worked values, by computation. A CIGAR word is length times 16 plus kind: 48 is 3M.
 -- Assumes nothing.
+use Rattle.std.specs.Prelude.{Ok}
 use mathlib.Core.Path.{◌≡◌, refl}
 use mathlib.Core.Bool.{true, false}
 use mathlib.Core.List.{List, [], ◌∷◌}
 use Prim.Native.Nat.{ℕ}
 use lib.IntN.{pos, negsuc}
-use Rattle.lent.specs.Outcome.{done, refuse}
+use Rattle.lent.specs.Outcome.{refuse}
 use Rattle.pattern.specs.Case.{same_in_any_case}
 use Rattle.cigar.specs.Cigar.{missing, read_places, query_places}
 use Rattle.alignment.specs.Reference.{is_cpg, fetched_bases}
@@ -15,7 +16,7 @@ abbrev clipped : List ℕ
 clipped = 36 ∷ 48 ∷ 18 ∷ 32 ∷ []
 
 -- one place less than the read has bases is 12; a row that is longer is not
-pub room : (query_places clipped (pos 100) false 6 ≡ refuse 12) × (query_places (16 ∷ []) (pos 5) true 9 ≡ done (pos 5 ∷ []))
+pub room : (query_places clipped (pos 100) false 6 ≡ refuse 12) × (query_places (16 ∷ []) (pos 5) true 9 ≡ Ok (pos 5 ∷ []))
 room = (refl, refl)
 
 -- 13: a kind above 8, at the last word too and before 1 and 12; a negative start; a start past 2147483647
@@ -23,7 +24,7 @@ pub unknown :
     (query_places (256016 ∷ 25 ∷ []) (pos 100) false 0 ≡ refuse 13)
     × (query_places clipped (negsuc 0) false 7 ≡ refuse 13)
     × (query_places clipped (pos 2147483648) false 7 ≡ refuse 13)
-    × (query_places (16 ∷ []) (pos 2147483647) false 1 ≡ done (pos 2147483647 ∷ []))
+    × (query_places (16 ∷ []) (pos 2147483647) false 1 ≡ Ok (pos 2147483647 ∷ []))
 unknown = (refl, refl, refl, refl)
 
 -- 1: 16,001 bases, before 12; the sum passes what 32 bits hold
@@ -52,7 +53,7 @@ cpg_off_the_slice = (refl, refl, refl)
 
 -- C, 0, G at -1, -5, 3, 1, 0, 2: negative places, one off the end and the byte 0 are missing
 pub fetched :
-    (fetched_bases (negsuc 0 ∷ negsuc 4 ∷ pos 3 ∷ pos 1 ∷ pos 0 ∷ pos 2 ∷ []) (67 ∷ 0 ∷ 71 ∷ []) 6 ≡ done (0 ∷ 0 ∷ 0 ∷ 0 ∷ 67 ∷ 71 ∷ []))
+    (fetched_bases (negsuc 0 ∷ negsuc 4 ∷ pos 3 ∷ pos 1 ∷ pos 0 ∷ pos 2 ∷ []) (67 ∷ 0 ∷ 71 ∷ []) 6 ≡ Ok (0 ∷ 0 ∷ 0 ∷ 0 ∷ 67 ∷ 71 ∷ []))
     × (fetched_bases (pos 0 ∷ pos 2 ∷ []) (67 ∷ 0 ∷ 71 ∷ []) 1 ≡ refuse 12)
-    × (fetched_bases [] [] 0 ≡ done [])
+    × (fetched_bases [] [] 0 ≡ Ok [])
 fetched = (refl, refl, refl)

@@ -1,7 +1,7 @@
 -- The reference under a read: whether a place is in a CpG, and the bases at a row of places.
 -- Assumes nothing.
-use Rattle.std.specs.Prelude.{ℕ, ◌+◌, ◌-◌, Bool, true, false, ◌&&◌, List, map, ℤ, pos, negsuc, length, get_or, leb, ltb}
-use Rattle.lent.specs.Outcome.{Outcome, done, need}
+use Rattle.std.specs.Prelude.{ℕ, ◌+◌, ◌-◌, Bool, true, false, ◌&&◌, List, map, ℤ, pos, negsuc, length, get_or, leb, ltb, Ok}
+use Rattle.lent.specs.Outcome.{Outcome, need}
 use Rattle.pattern.specs.Case.{same_in_any_case}
 
 -- the letter is at the place, in upper or lower case; a place outside the reference has no letter
@@ -20,4 +20,4 @@ base_at reference (negsuc n) = 0
 
 -- only 12, if the row lent for the bases is too short
 abbrev pub fetched_bases : List ℤ → List ℕ → ℕ → Outcome (List ℕ)
-fetched_bases places reference room = need (leb (length places) room) 12 (done (map (base_at reference) places))
+fetched_bases places reference room = need (leb (length places) room) 12 (Ok (map (base_at reference) places))

@@ -9,30 +9,27 @@ ghost use Rattle.alignment.specs.PublicContracts.{FindsPlaces, TellsCpg, Fetches
 ghost use Rattle.alignment.specs.Reference.{holds_at, base_at};
 
 use cigar::{check, start_of};
-use lent::{Refusal, Written};
+use lent::Refusal;
 use walking::{outset, walk};
 
 // The place of each base on the reference, or -1 if it has none, for a read in its own orientation: the bases of a reverse read come in the order of
-// sequencing, from the alignment's end. `cigar` holds BAM words, `alignment_start` counts from 0. Done with the number of places in `positions`;
-// refused with 13 for an unknown kind or the start, 1 for more than 65,535 operations or 16,000 bases, 12 if `positions` is too short.
+// sequencing, from the alignment's end. `cigar` holds BAM words, `alignment_start` counts from 0. Ok with the number of places in `positions`;
+// Err with 13 for an unknown kind or the start, 1 for more than 65,535 operations or 16,000 bases, 12 if `positions` is too short.
 pub fn query_to_ref_positions(
     cigar: &[u32],
     alignment_start: i64,
     is_reverse: bool,
     positions: &mut [i64],
-) -> Written
+) -> Result<usize, Refusal>
     ensures { FindsPlaces cigar.now alignment_start is_reverse positions.old result positions.new }
 {
-    let checked = check(cigar, alignment_start);
-    let Written::Done(bases) = checked else {
-        return checked;
-    };
+    let bases = check(cigar, alignment_start)?;
     if positions.len() < bases {
-        return Written::Refused(Refusal(12));
+        return Err(Refusal::NoRoom);
     }
     let begin = outset(cigar, start_of(alignment_start), is_reverse);
     walk(cigar, begin, is_reverse, positions);
-    Written::Done(bases)
+    Ok(bases)
 }
 
 // ---- the reference
@@ -85,22 +82,19 @@ fn base_at(reference: &[u8], place: i64) -> u8
 }
 
 // The reference's base at each place, or byte 0 if the place is negative or outside the reference. So a 0 in the reference reads as missing too.
-// Done with the number of bases in `bases`; refused with 12 if `bases` is too short.
+// Ok with the number of bases in `bases`; Err with 12 if `bases` is too short.
 pub fn fetch_ref_bases_at_positions(
     ref_positions: &[i64],
     reference: &[u8],
     bases: &mut [u8],
-) -> Written
+) -> Result<usize, Refusal>
     ensures { FetchesBases ref_positions.now reference.now bases.old result bases.new }
 {
     if bases.len() < ref_positions.len() {
-        return Written::Refused(Refusal(12));
+        return Err(Refusal::NoRoom);
     }
-    let mut i = 0;
-    while i < ref_positions.len() {
-        let place = ref_positions[i];
+    for (i, &place) in ref_positions.iter().enumerate() {
         bases[i] = base_at(reference, place);
-        i += 1;
     }
-    Written::Done(i)
+    Ok(ref_positions.len())
 }

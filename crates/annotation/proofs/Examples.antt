@@ -1,12 +1,13 @@
 -- The definitions of evidence at worked values, by computation. Bases are 'A' 65, 'C' 67, 'G' 71, 'T' 84, and 'a' 97, 'c' 99, 't' 116.
 -- Assumes nothing.
+use Rattle.std.specs.Prelude.{Ok}
 use mathlib.Core.Path.{◌≡◌, refl}
 use Prim.Native.Nat.{ℕ}
 use mathlib.Core.Bool.{true, false}
 use mathlib.Core.List.{List, [], ◌∷◌}
 use lib.IntN.{pos}
 use lib.ListN.{take}
-use Rattle.lent.specs.Outcome.{done, refuse}
+use Rattle.lent.specs.Outcome.{refuse}
 use Rattle.pattern.specs.Case.{upper, same_in_any_case}
 use Rattle.pattern.specs.declared.ConversionPattern.TheVariants.{CToT, GToA}
 use Rattle.columns.specs.Columns.{gated_counts, as_yes, as_tag_counts, restored, informative_at, informative_column}
@@ -49,7 +50,7 @@ all_counts_lem = (refl, refl, refl, refl)
 
 -- room in each column; one has none; an aligned byte too few, which comes before the room; a consensus that is too long, which comes before both
 asked :
-    (annotated 4 lengths bases aligned 4 4 9 ≡ done 4)
+    (annotated 4 lengths bases aligned 4 4 9 ≡ Ok 4)
     × (annotated 4 lengths bases aligned 4 3 9 ≡ refuse 12)
     × (annotated 4 lengths bases (take 6 aligned) 4 3 9 ≡ refuse 2)
     × (annotated 16001 lengths bases (take 6 aligned) 4 3 9 ≡ refuse 1)
@@ -64,8 +65,8 @@ gate = refl
 -- yes is written as 1, and all is kept where more is asked for
 truncate :
     (as_yes (take 2 (9 ∷ 0 ∷ 1 ∷ [])) ≡ 1 ∷ 0 ∷ [])
-    × (truncated 2 3 3 3 2 2 2 ≡ done 2)
-    × (truncated 5 3 3 3 3 3 3 ≡ done 3)
+    × (truncated 2 3 3 3 2 2 2 ≡ Ok 2)
+    × (truncated 5 3 3 3 3 3 3 ≡ Ok 3)
     × (truncated 2 3 3 3 2 1 2 ≡ refuse 12)
     × (truncated 2 3 2 3 2 1 2 ≡ refuse 2)
 unfolding truncated columns_of in_room
@@ -73,7 +74,7 @@ truncate = (refl, refl, refl, refl, refl)
 
 tag_counts :
     (as_tag_counts (0 ∷ 32767 ∷ 32768 ∷ 4294967295 ∷ []) ≡ pos 0 ∷ pos 32767 ∷ pos 32767 ∷ pos 32767 ∷ [])
-    × (counts_in_room 3 3 3 3 ≡ done 3)
+    × (counts_in_room 3 3 3 3 ≡ Ok 3)
     × (counts_in_room 3 3 3 2 ≡ refuse 12)
     × (counts_in_room 3 3 4 2 ≡ refuse 2)
     × (counts_in_room 3 3 16001 2 ≡ refuse 1)
@@ -84,7 +85,7 @@ tag_counts = (refl, refl, refl, refl, refl)
 restore :
     (restored CToT (1 ∷ 0 ∷ 9 ∷ 1 ∷ []) (116 ∷ 84 ∷ 67 ∷ 65 ∷ []) ≡ 67 ∷ 84 ∷ 67 ∷ 65 ∷ [])
     × (restored GToA (1 ∷ []) (97 ∷ []) ≡ 71 ∷ [])
-    × (restorable 4 4 ≡ done 4)
+    × (restorable 4 4 ≡ Ok 4)
     × (restorable 4 3 ≡ refuse 2)
 unfolding same_in_any_case upper restorable
 restore = (refl, refl, refl, refl)

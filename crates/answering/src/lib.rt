@@ -1,32 +1,25 @@
-// One line of `tagedit` after the opening: its step is done on the session's own rows and answered. A support crate: its functions may have a `requires`.
+// One line of `tagedit` after the opening: its step is done on the session's own rows. A call answers the step's number and the session's lengths
+// after it; None if the line is bad. A support crate: its functions may have a `requires`.
 //
 // The places of a mask or a drop are written directly from the line into a row, so that no list of them is held.
 #![tactic(auto)]
 
-ghost use Rattle.std.specs.Prelude.{◌≡◌, ◌≤◌, length};
-ghost use Rattle.std.proofs.Math.Option.{none, some};
+ghost use Rattle.std.specs.Prelude.{◌≡◌, ◌≤◌, length, None, Some};
 ghost use Rattle.samtags.specs.Session.{mask, drop_calls};
 ghost use Rattle.stepping.specs.Steps.{Ordered, memory};
 ghost use Rattle.lines.specs.Lines.{numbers_of, given, cut_of, step_of};
 ghost use Rattle.answering.specs.Answers.{answer_of, LineAnswered};
 
-use operands::Ends;
-use stepping::{Lengths, Stepped};
-
-// The answer to a line: that the line is bad, or a number and the session's lengths after the line.
-#[derive(Clone, Copy)]
-pub enum Answered {
-    Bad,
-    With(usize, Lengths),
-}
+use lent::Refusal;
+use stepping::Lengths;
 
 // A step's answer: 0 and the new lengths, or its number and the old lengths.
-fn step_answer(step: Stepped, before: Lengths) -> Answered
+fn step_answer(step: Result<Lengths, Refusal>, before: Lengths) -> (usize, Lengths)
     ensures { result ≡ answer_of step before }
 {
     match step {
-        Stepped::Done(lengths) => Answered::With(0, lengths),
-        Stepped::Refused(refusal) => Answered::With(refusal.0 as usize, before),
+        Ok(lengths) => (0, lengths),
+        Err(refusal) => (refusal.number() as usize, before),
     }
 }
 
@@ -38,9 +31,9 @@ fn mask_line(
     ml: &mut [u8],
     has_ml: bool,
     lengths: Lengths,
-) -> Answered
+) -> Option<(usize, Lengths)>
     requires { Ordered has_ml (memory seq.old mm.old ml.old lengths) × (length body.now ≤ 65536) }
-    ensures { LineAnswered has_ml (given (numbers_of 4294967295 body.now) none (λ ns. some (mask ns)))
+    ensures { LineAnswered has_ml (given (numbers_of 4294967295 body.now) None (λ ns. Some (mask ns)))
         (memory seq.old mm.old ml.old lengths) result seq.new mm.new ml.new }
 {
     let n = lengths.seq;
@@ -48,10 +41,10 @@ fn mask_line(
     entries::put_all(&mut after, 0, &seq[0..n]);
     let good = operands::put_listed(body, &mut after, b'N');
     if !good {
-        return Answered::Bad;
+        return None;
     }
     let step = masking::mask_to(seq, mm, ml, has_ml, lengths, &after[0..n]);
-    step_answer(step, lengths)
+    Some(step_answer(step, lengths))
 }
 
 // Drops the calls at the listed places.
@@ -62,18 +55,18 @@ fn drop_line(
     ml: &mut [u8],
     has_ml: bool,
     lengths: Lengths,
-) -> Answered
+) -> Option<(usize, Lengths)>
     requires { Ordered has_ml (memory seq.now mm.old ml.old lengths) × (length body.now ≤ 65536) }
-    ensures { LineAnswered has_ml (given (numbers_of 4294967295 body.now) none (λ ns. some (drop_calls ns)))
+    ensures { LineAnswered has_ml (given (numbers_of 4294967295 body.now) None (λ ns. Some (drop_calls ns)))
         (memory seq.now mm.old ml.old lengths) result seq.now mm.new ml.new }
 {
     let mut marks = changing::no_marks();
     let good = operands::put_listed(body, &mut marks, 1);
     if !good {
-        return Answered::Bad;
+        return None;
     }
     let step = dropping::drop_marked(seq, mm, ml, has_ml, lengths, &marks);
-    step_answer(step, lengths)
+    Some(step_answer(step, lengths))
 }
 
 // Cuts bases off the front and off the back.
@@ -84,17 +77,14 @@ fn cut_line(
     ml: &mut [u8],
     has_ml: bool,
     lengths: Lengths,
-) -> Answered
+) -> Option<(usize, Lengths)>
     requires { Ordered has_ml (memory seq.old mm.old ml.old lengths) × (length body.now ≤ 65536) }
-    ensures { LineAnswered has_ml (given (numbers_of 4294967295 body.now) none cut_of)
+    ensures { LineAnswered has_ml (given (numbers_of 4294967295 body.now) None cut_of)
         (memory seq.old mm.old ml.old lengths) result seq.new mm.new ml.new }
 {
-    let ends = operands::read_ends(body);
-    let Ends::Of(front, back) = ends else {
-        return Answered::Bad;
-    };
+    let (front, back) = operands::read_ends(body)?;
     let step = cutting::cut_ends(seq, mm, ml, has_ml, lengths, front, back);
-    step_answer(step, lengths)
+    Some(step_answer(step, lengths))
 }
 
 // Does the line's step and answers it. A line that asks for no step is bad; then nothing is promised about the rows.
@@ -105,7 +95,7 @@ pub fn answer_line(
     ml: &mut [u8],
     has_ml: bool,
     lengths: Lengths,
-) -> Answered
+) -> Option<(usize, Lengths)>
     requires { Ordered has_ml (memory seq.old mm.old ml.old lengths) × (length line.now ≤ 65536) }
     ensures { LineAnswered has_ml (step_of line.now)
         (memory seq.old mm.old ml.old lengths) result seq.new mm.new ml.new }
@@ -123,5 +113,5 @@ pub fn answer_line(
     if cuts {
         return cut_line(body, seq, mm, ml, has_ml, lengths);
     }
-    Answered::Bad
+    None
 }

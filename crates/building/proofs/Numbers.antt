@@ -8,9 +8,7 @@ use lib.ListN.{length, replicate}
 use Rattle.building.specs.PublicContracts.{Built, BuiltAlone}
 use Rattle.lent.proofs.Answers.{answers, only_on_done}
 use Rattle.lent.specs.Answers.{Answers}
-use Rattle.lent.specs.Outcome.{number_of, on_done, says, tag_says}
-use Rattle.lent.specs.declared.Tagged.{Tagged}
-use Rattle.lent.specs.declared.Written.{Written}
+use Rattle.lent.specs.Outcome.{Outcome, number_of, on_done}
 use Rattle.pattern.specs.declared.ConversionPattern.{ConversionPattern}
 use Rattle.pattern.specs.declared.ConversionPattern.TheVariants.{CToT}
 use Rattle.pattern.specs.declared.MethylationMode.{MethylationMode}
@@ -21,13 +19,13 @@ use Rattle.samtags.specs.Bytes.{ascii}
 use Rattle.samtags.specs.Writing.{Tag, sizes_of}
 
 module _ (mode : MethylationMode) (p : ConversionPattern) (ev : Evidence) (seq mm : List ℕ) where
-  pub build_mm_ml_tags_numbers : (ml : List ℕ) (r : Tagged) (mm' ml' : List ℕ) → Built mode p ev seq mm ml r mm' ml'
-      → Answers (1 ∷ 2 ∷ 12 ∷ 20 ∷ []) (tag_says r)
+  pub build_mm_ml_tags_numbers : (ml : List ℕ) (r : Outcome (ℕ × ℕ)) (mm' ml' : List ℕ) → Built mode p ev seq mm ml r mm' ml'
+      → Answers (1 ∷ 2 ∷ 12 ∷ 20 ∷ []) r
   build_mm_ml_tags_numbers ml r mm' ml' b =
       let o = build_tag true mode p ev seq (length mm) (length ml) in
       rw b.0 (answers _ (on_done sizes_of o) refl (only_on_done build_numbers sizes_of o (build_tag_only true mode p ev seq (length mm) (length ml))))
 
-  pub build_mm_tag_no_ml_numbers : (r : Written) (mm' : List ℕ) → BuiltAlone mode p ev seq mm r mm' → Answers (1 ∷ 2 ∷ 12 ∷ 20 ∷ []) (says r)
+  pub build_mm_tag_no_ml_numbers : (r : Outcome ℕ) (mm' : List ℕ) → BuiltAlone mode p ev seq mm r mm' → Answers (1 ∷ 2 ∷ 12 ∷ 20 ∷ []) r
   build_mm_tag_no_ml_numbers r mm' b =
       let o = build_tag false mode p ev seq (length mm) 0 in
       let size : Tag → ℕ = λ t. length t.text in

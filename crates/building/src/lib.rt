@@ -6,12 +6,12 @@
 #![tactic(auto)]
 
 ghost use Rattle.std.specs.Prelude.{◌≡◌};
-ghost use Rattle.lent.specs.Outcome.{on_done, tag_says};
+ghost use Rattle.lent.specs.Outcome.{on_done};
 ghost use Rattle.samtags.specs.Writing.{sizes_of};
 ghost use Rattle.samtags.specs.Building.{columns, built_tag};
 ghost use Rattle.building.specs.PublicContracts.{Built, BuiltAlone};
 
-use lent::{Refusal, Tagged, Written};
+use lent::Refusal;
 use pattern::{ConversionPattern, MethylationMode};
 
 // The first pass: every refusal except for too little room, and 20; else the lengths of the tag.
@@ -22,17 +22,17 @@ fn measure(
     converted: &[u32],
     pattern: ConversionPattern,
     methylation_mode: MethylationMode,
-) -> Tagged
-    ensures { tag_says result ≡ on_done sizes_of (built_tag methylation_mode pattern
+) -> Result<(usize, usize), Refusal>
+    ensures { result ≡ on_done sizes_of (built_tag methylation_mode pattern
         (columns informative.now unconverted.now converted.now) consensus_bases.now) }
 {
     let short = strand::in_domain(consensus_bases, informative, unconverted, converted);
     if !short {
-        return Tagged::Refused(Refusal(1));
+        return Err(Refusal::TooLong);
     }
     let agree = strand::agree(consensus_bases, informative, unconverted, converted);
     if !agree {
-        return Tagged::Refused(Refusal(2));
+        return Err(Refusal::LengthsDisagree);
     }
     let own = strand::measure(
         consensus_bases,
@@ -43,14 +43,14 @@ fn measure(
         methylation_mode,
     );
     if own.values == 0 {
-        return Tagged::Refused(Refusal(20));
+        return Err(Refusal::NoCalls);
     }
-    Tagged::Done(own.text, own.values)
+    Ok((own.text, own.values))
 }
 
 // Builds the strand's MM text and ML into two lent rows.
-// Done with the number of filled bytes of `mm` and of filled values of `ml`; 1 if an input is too long, 2 if consensus and columns differ in length,
-// 20 if there is no call or no chemistry, 12 if `mm` or `ml` has no room. Unless the call is done, the rows are unchanged.
+// Ok with the number of filled bytes of `mm` and of filled values of `ml`; Err with 1 if an input is too long, 2 if consensus and columns differ in length,
+// 20 if there is no call or no chemistry, 12 if `mm` or `ml` has no room. Unless the answer is Ok, the rows are unchanged.
 pub fn build_mm_ml_tags(
     consensus_bases: &[u8],
     informative: &[u8],
@@ -60,26 +60,23 @@ pub fn build_mm_ml_tags(
     methylation_mode: MethylationMode,
     mm: &mut [u8],
     ml: &mut [u8],
-) -> Tagged
+) -> Result<(usize, usize), Refusal>
     ensures { Built methylation_mode pattern (columns informative.now unconverted.now converted.now)
         consensus_bases.now mm.old ml.old result mm.new ml.new }
 {
-    let asked = measure(
+    let (text_len, calls) = measure(
         consensus_bases,
         informative,
         unconverted,
         converted,
         pattern,
         methylation_mode,
-    );
-    let Tagged::Done(text_len, calls) = asked else {
-        return asked;
-    };
+    )?;
     if mm.len() < text_len {
-        return Tagged::Refused(Refusal(12));
+        return Err(Refusal::NoRoom);
     }
     if ml.len() < calls {
-        return Tagged::Refused(Refusal(12));
+        return Err(Refusal::NoRoom);
     }
     strand::put_tag(
         consensus_bases,
@@ -92,11 +89,11 @@ pub fn build_mm_ml_tags(
         mm,
         ml,
     );
-    asked
+    Ok((text_len, calls))
 }
 
 // Builds the strand's MM text alone, as the `am` and `bm` tags hold it.
-// Done with the number of filled bytes of `mm`; 1, 2, 20 and 12 as for `build_mm_ml_tags`.
+// Ok with the number of filled bytes of `mm`; Err with 1, 2, 20 and 12 as for `build_mm_ml_tags`.
 pub fn build_mm_tag_no_ml(
     consensus_bases: &[u8],
     informative: &[u8],
@@ -105,23 +102,20 @@ pub fn build_mm_tag_no_ml(
     pattern: ConversionPattern,
     methylation_mode: MethylationMode,
     mm: &mut [u8],
-) -> Written
+) -> Result<usize, Refusal>
     ensures { BuiltAlone methylation_mode pattern (columns informative.now unconverted.now converted.now)
         consensus_bases.now mm.old result mm.new }
 {
-    let asked = measure(
+    let (text_len, calls) = measure(
         consensus_bases,
         informative,
         unconverted,
         converted,
         pattern,
         methylation_mode,
-    );
-    let Tagged::Done(text_len, calls) = asked else {
-        return Written::Refused(asked.refusal());
-    };
+    )?;
     if mm.len() < text_len {
-        return Written::Refused(Refusal(12));
+        return Err(Refusal::NoRoom);
     }
     let mut ml: [u8; 0] = [];
     strand::put_tag(
@@ -135,5 +129,5 @@ pub fn build_mm_tag_no_ml(
         mm,
         &mut ml,
     );
-    Written::Done(text_len)
+    Ok(text_len)
 }

@@ -1,12 +1,12 @@
 -- Laws of an entry: what an edit says of a place, one more base among those that the entry passes, and the whole entry from the answers of its parts.
 -- Assumes nothing.
+use Rattle.std.specs.Prelude.{Ok, Err, None}
 use mathlib.Core.Path.{◌≡◌, refl, sym, ap, ◌∙◌}
 use Prim.Native.Nat.{ℕ, suc, ◌+◌, ◌-◌, ◌≤◌, ◌<◌, min}
 use native.Mathlib.Nat.{add-zero, sub-zero}
 use native.Mathlib.Omega.{arith}
 use mathlib.Core.Bool.{Bool, true, false, cond, not, ◌||◌}
 use mathlib.Core.List.{List, [], ◌∷◌, ◌++◌}
-use mathlib.Core.Option.{none}
 use lib.Dec.{leb}
 use lib.ListN.{length, get_or, take, drop, length-append, length-drop, length-take}
 use lib.Seq.{take_all}
@@ -15,7 +15,7 @@ use Rattle.lent.proofs.Lists.{filter_append, filter_length}
 use Rattle.lent.proofs.Outcome.{done_inj, need_rest, need_test, on_done_inv, on_done_refused, with_first_inv}
 use Rattle.lent.proofs.Tests.{by-test}
 use Rattle.lent.specs.Lists.{filter}
-use Rattle.lent.specs.Outcome.{Outcome, done, need, refusal, refuse, refused, with_first}
+use Rattle.lent.specs.Outcome.{Outcome, need, refusal, refuse, with_first}
 use Rattle.lent.specs.declared.Refusal.{Refusal}
 use Rattle.samtags.specs.Decimal.{is_number, value}
 use Rattle.samtags.specs.Reading.{read_entry}
@@ -79,8 +79,8 @@ module _ (held : ℕ → Bool) (b : ℕ) (s : List ℕ) (i m n : ℕ) where
   passing_end h = rw (found_end b s i n h)
 
   module _ (l : i < length s) where
-    pub passing_at : holds b (get_or s i 0) ≡ true → n ≡ 0 → passing held m n (tracked_from b i s) ≡ done (i, m)
-    passing_at h z = rw (z, found_at b s i 0 l h refl) (ap (λ (k : ℕ). done (i, k)) (add-zero m))
+    pub passing_at : holds b (get_or s i 0) ≡ true → n ≡ 0 → passing held m n (tracked_from b i s) ≡ Ok (i, m)
+    passing_at h z = rw (z, found_at b s i 0 l h refl) (ap (λ (k : ℕ). Ok (i, k)) (add-zero m))
 
     pub passing_on : holds b (get_or s i 0) ≡ true → (k : ℕ) → n ≡ suc k
         → passing held m n (tracked_from b i s) ≡ passing held (m + cond (held i) 1 0) k (tracked_from b (i + 1) s)
@@ -93,10 +93,10 @@ module _ (held : ℕ → Bool) (b : ℕ) (s : List ℕ) (i m n : ℕ) where
         sum = by-test (held i) (λ e. rw e (omega arith)) (λ e. rw e (omega arith))
 
         go : (ps : List ℕ)
-            → with_first {B = ℕ × ℕ} ps 7 (λ p more. done (p, m + length (cond (held i) (i ∷ rest) rest)))
-            ≡ with_first {B = ℕ × ℕ} ps 7 (λ p more. done (p, m + cond (held i) 1 0 + length rest))
+            → with_first {B = ℕ × ℕ} ps 7 (λ p more. Ok (p, m + length (cond (held i) (i ∷ rest) rest)))
+            ≡ with_first {B = ℕ × ℕ} ps 7 (λ p more. Ok (p, m + cond (held i) 1 0 + length rest))
         go [] = refl
-        go (p ∷ ps) = ap (λ (c : ℕ). done (p, c)) sum
+        go (p ∷ ps) = ap (λ (c : ℕ). Ok (p, c)) sum
 
     pub passing_miss : holds b (get_or s i 0) ≡ false → passing held m n (tracked_from b i s) ≡ passing held m n (tracked_from b (i + 1) s)
     passing_miss h = ap (λ (ps : List ℕ). passing held m n ps) (found_miss b s i 0 l h)
@@ -124,9 +124,9 @@ module _ (lo : ℕ) (after : List ℕ) (b : ℕ) (s : List ℕ) (from place n pa
 
   pub passing_behind : passing (held_in lo after b) 0 n (tracked_from b from s) ≡ passing (held_in lo after b) m (n - passed) (tracked_from b place s)
   passing_behind =
-      ap (λ (ps : List ℕ). with_first {B = ℕ × ℕ} ps 7 (λ p rest. done (p, 0 + length (filter (held_in lo after b) (take n (tracked_from b from s))))))
+      ap (λ (ps : List ℕ). with_first {B = ℕ × ℕ} ps 7 (λ p rest. Ok (p, 0 + length (filter (held_in lo after b) (take n (tracked_from b from s))))))
       (behind_passed b s from place n passed l u few e)
-      ∙ ap (λ (k : ℕ). with_first {B = ℕ × ℕ} (drop (n - passed) (tracked_from b place s)) 7 (λ p rest. done (p, k))) counted
+      ∙ ap (λ (k : ℕ). with_first {B = ℕ × ℕ} (drop (n - passed) (tracked_from b place s)) 7 (λ p rest. Ok (p, k))) counted
 
 -- ---- an entry, by what the skip reader and the walk answer
 
@@ -142,22 +142,22 @@ module _ (held denied : ℕ → Bool) (k : ℕ) (f places : List ℕ) (left : �
   abbrev read_here : Outcome (ℕ × ℕ)
   read_here = with_passed held (value f) places (read_entry k denied f places left)
 
-  pub read_six : (n : ℕ) (r : Refusal) → refused r ≡ need (is_number f) 6 (done n) → refused r ≡ read_here
+  pub read_six : (n : ℕ) (r : Refusal) → Err r ≡ need (is_number f) 6 (Ok n) → Err r ≡ read_here
   read_six n r e = rw (entry_refused k denied f places left r (entry_six f places n r e))
 
-  module _ (few : length places ≤ 16000) (n : ℕ) (e : done n ≡ need (is_number f) 6 (done (min 16001 (value f)))) where
-    pub read_seven : (r : Refusal) → refused r ≡ passing held 0 n places → refused r ≡ read_here
+  module _ (few : length places ≤ 16000) (n : ℕ) (e : Ok n ≡ need (is_number f) 6 (Ok (min 16001 (value f)))) where
+    pub read_seven : (r : Refusal) → Err r ≡ passing held 0 n places → Err r ≡ read_here
     read_seven r h =
         let w = go (drop n places) h in
         rw (w.0, entry_refused k denied f places left (refusal 7) (entry_seven f places 16001 (omega arith) n e w.1))
       where
-        go : (l : List ℕ) → refused r ≡ with_first {B = ℕ × ℕ} l 7 (λ p rest. done (p, 0 + length (filter held (take n places))))
-            → (r ≡ refusal 7) × (none ≡ first_of l)
+        go : (l : List ℕ) → Err r ≡ with_first {B = ℕ × ℕ} l 7 (λ p rest. Ok (p, 0 + length (filter held (take n places))))
+            → (r ≡ refusal 7) × (None ≡ first_of l)
         go [] h = (cc, refl)
         go (x ∷ xs) h = let z : ◌≡◌ {A = ℕ} 0 1 = cc in absurd (omega arith)
 
-    module _ (p c : ℕ) (h : done (p, c) ≡ passing held 0 n places) where
-      found : done p ≡ entry_at f places
+    module _ (p c : ℕ) (h : Ok (p, c) ≡ passing held 0 n places) where
+      found : Ok p ≡ entry_at f places
       found =
           let w = with_first_inv (drop n places) 7 _ (p, c) (sym h) in
           let same : w.0 ≡ p = ap (λ (x : ℕ × ℕ). x.0) (done_inj w.3) in
@@ -167,7 +167,7 @@ module _ (held denied : ℕ → Bool) (k : ℕ) (f places : List ℕ) (left : �
       count =
           let w = with_first_inv (drop n places) 7 _ (p, c) (sym h) in
           let same : 0 + length (filter held (take n places)) ≡ c = ap (λ (x : ℕ × ℕ). x.1) (done_inj w.3) in
-          let q : min 16001 (value f) ≡ n = done_inj (need_rest (is_number f) 6 (done (min 16001 (value f))) n (sym e)) in
+          let q : min 16001 (value f) ≡ n = done_inj (need_rest (is_number f) 6 (Ok (min 16001 (value f))) n (sym e)) in
           ap (λ (l : List ℕ). length (filter held l)) (sym (bounded_take 16001 (value f) places (omega arith)) ∙ ap (λ (x : ℕ). take x places) q)
           ∙ omega (arith, same)
 
@@ -178,9 +178,9 @@ module _ (held denied : ℕ → Bool) (k : ℕ) (f places : List ℕ) (left : �
       read_ten l d = rw (entry_ten k denied f places left p found l d)
 
 pub read_on : (held denied : ℕ → Bool) (k : ℕ) (f : List ℕ) (b i : ℕ) (s : List ℕ) (left : ℕ) → length s ≤ 16000
-    → (n : ℕ) → done n ≡ need (is_number f) 6 (done (min 16001 (value f)))
-    → (p c : ℕ) → done (p, c) ≡ passing held 0 n (tracked_from b i s) → k ≤ left → denied p ≡ false
-    → done (p, c) ≡ with_passed held (value f) (tracked_from b i s) (read_entry k denied f (tracked_from b i s) left)
+    → (n : ℕ) → Ok n ≡ need (is_number f) 6 (Ok (min 16001 (value f)))
+    → (p c : ℕ) → Ok (p, c) ≡ passing held 0 n (tracked_from b i s) → k ≤ left → denied p ≡ false
+    → Ok (p, c) ≡ with_passed held (value f) (tracked_from b i s) (read_entry k denied f (tracked_from b i s) left)
 read_on held denied k f b i s left short n e p c h l d =
     let places = tracked_from b i s in
     let few : length places ≤ 16000 = omega (arith, tracked_few b i s) in
@@ -189,12 +189,12 @@ read_on held denied k f b i s left short n e p c h l d =
 -- ---- an entry that was read, as the walk over the entries takes it
 
 pub reached_refused : (held denied : ℕ → Bool) (k : ℕ) (f places : List ℕ) (left : ℕ) (r : Refusal)
-    → refused r ≡ with_passed held (value f) places (read_entry k denied f places left) → read_entry k denied f places left ≡ refused r
+    → Err r ≡ with_passed held (value f) places (read_entry k denied f places left) → read_entry k denied f places left ≡ Err r
 reached_refused held denied k f places left r h = on_done_refused _ (read_entry k denied f places left) r (sym h)
 
 -- what is known of an entry that lists the place p
 pub record Went (held denied : ℕ → Bool) (k : ℕ) (f : List ℕ) (b i : ℕ) (s : List ℕ) (left p c : ℕ) : Type 0 where
-  pub goes : read_entry k denied f (tracked_from b i s) left ≡ done (p, tracked_from b (p + 1) s)
+  pub goes : read_entry k denied f (tracked_from b i s) left ≡ Ok (p, tracked_from b (p + 1) s)
   pub inside : p < length s
   pub enough : k ≤ left
   pub passed : c ≡ length (filter held (take (value f) (tracked_from b i s)))
@@ -203,7 +203,7 @@ pub record Went (held denied : ℕ → Bool) (k : ℕ) (f : List ℕ) (b i : ℕ
   pub fewer : c + 1 + length (tracked_from b (p + 1) s) ≤ length (tracked_from b i s)
 
 pub reached_went : (held denied : ℕ → Bool) (k : ℕ) (f : List ℕ) (b i : ℕ) (s : List ℕ) (left p c : ℕ)
-    → done (p, c) ≡ with_passed held (value f) (tracked_from b i s) (read_entry k denied f (tracked_from b i s) left) → Went held denied k f b i s left p c
+    → Ok (p, c) ≡ with_passed held (value f) (tracked_from b i s) (read_entry k denied f (tracked_from b i s) left) → Went held denied k f b i s left p c
 unfolding read_entry entry_at
 reached_went held denied k f b i s left p c h =
     let places = tracked_from b i s in
@@ -215,7 +215,7 @@ reached_went held denied k f b i s left p c h =
     let allowed = need_test (not (denied first.0)) 10 _ e (need_rest (leb k left) 8 _ e first.3) in
     let same : (first.0, first.1) ≡ e = done_inj (need_rest (not (denied first.0)) 10 _ e (need_rest (leb k left) 8 _ e first.3)) in
     let at : first.0 ≡ p = ap (λ (x : ℕ × List ℕ). x.0) same ∙ ap (λ (x : ℕ × ℕ). x.0) o.2 in
-    let lists : done p ≡ entry_at f places = rw (number, first.2, at) in
+    let lists : Ok p ≡ entry_at f places = rw (number, first.2, at) in
     let went = entry_went k denied f i b s left p lists (leb-true k left enough) (ap denied (sym at) ∙ not-true (denied first.0) allowed) in
     let rest : (p, tracked_from b (p + 1) s) ≡ e = done_inj (sym went.0 ∙ o.1) in
     let tail : length first.1 ≡ length (tracked_from b (p + 1) s) = ap (λ (x : ℕ × List ℕ). length x.1) (same ∙ sym rest) in

@@ -1,17 +1,17 @@
 -- An entry that is read, and an edited tag while it is written: two rows, and the end of the written part of each. Stores past a row's end are left
 -- out, so that rows without room measure. These are contracts of support functions; no promise rests on them.
 -- Assumes nothing.
-use Rattle.std.specs.Prelude.{ℕ, ◌+◌, Bool, true, false, List, length, take, drop}
+use Rattle.std.specs.Prelude.{ℕ, ◌+◌, Bool, true, false, List, length, take, drop, Ok}
 use Rattle.std.proofs.lemmas.List.Edits.{sets}
 use Rattle.lent.specs.Lists.{filter}
-use Rattle.lent.specs.Outcome.{Outcome, done, on_done, with_first}
+use Rattle.lent.specs.Outcome.{Outcome, on_done, with_first}
 use Rattle.samtags.specs.Writing.{entry_text}
 
 -- ---- an entry
 
 -- the place after the first n places, and m plus the number of those n that pass the test; 7 if there is no such place
 abbrev pub passing : (ℕ → Bool) → ℕ → ℕ → List ℕ → Outcome (ℕ × ℕ)
-passing held m n places = with_first (drop n places) 7 (λ p rest. done (p, m + length (filter held (take n places))))
+passing held m n places = with_first (drop n places) 7 (λ p rest. Ok (p, m + length (filter held (take n places))))
 
 -- for an entry that is read: its place, and how many of the n places that it passes over pass the test
 abbrev pub with_passed : (ℕ → Bool) → ℕ → List ℕ → Outcome (ℕ × List ℕ) → Outcome (ℕ × ℕ)

@@ -62,9 +62,7 @@ pub fn few_marks() -> [u8; 1024]
 pub fn mark_places(places: &[u32], row: &mut [u8], b: u8)
     ensures { row.new ≡ stored_at b places.now row.old }
 {
-    let mut i = 0;
-    while i < places.len() {
-        numbers::put(row, places[i] as usize, b);
-        i += 1;
+    for &p in places {
+        numbers::put(row, p as usize, b);
     }
 }

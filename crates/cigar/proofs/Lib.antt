@@ -1,3 +1,2 @@
-pub mod Among
 pub mod Signed
 pub mod Totals

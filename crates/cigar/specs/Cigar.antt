@@ -1,9 +1,9 @@
 -- The reference places of a read's bases in an alignment: SAM v1's table of CIGAR operations, the walk forward from the alignment's start, the walk
 -- backward from its end, and the outcome of the public call.
 -- Assumes nothing.
-use Rattle.std.specs.Prelude.{ℕ, zero, suc, ◌+◌, ◌-◌, ◌/◌, ◌%◌, Bool, true, false, cond, ◌&&◌, List, [], ◌∷◌, ◌++◌, reverse, ℤ, pos, negsuc, length, replicate, leb}
+use Rattle.std.specs.Prelude.{ℕ, zero, suc, ◌+◌, ◌-◌, ◌/◌, ◌%◌, Bool, true, false, cond, ◌&&◌, List, [], ◌∷◌, ◌++◌, reverse, ℤ, pos, negsuc, length, replicate, leb, Ok}
 use Rattle.lent.specs.Lists.{every, among}
-use Rattle.lent.specs.Outcome.{Outcome, done, need, and_then}
+use Rattle.lent.specs.Outcome.{Outcome, need, and_then}
 
 -- ---- one operation: a BAM word is length times 16 plus kind; the kinds 0 to 8 are M I D N S H P = X
 
@@ -86,14 +86,14 @@ abbrev pub start_of : ℤ → ℕ
 start_of (pos n) = n
 start_of (negsuc n) = 0
 
--- the check, without the walk: 13 for an unknown kind in any word or for the start, then 1; done with the read's number of bases
+-- the check, without the walk: 13 for an unknown kind in any word or for the start, then 1; Ok with the read's number of bases
 abbrev pub checked : List ℕ → ℤ → Outcome ℕ
 checked words start =
     need (every is_known words && is_start start) 13
     (need (leb (length words) 65535 && leb (query_length words) 16000) 1
-    (done (query_length words)))
+    (Ok (query_length words)))
 
 -- last 12, if the row lent for the places is too short
 abbrev pub query_places : List ℕ → ℤ → Bool → ℕ → Outcome (List ℤ)
 query_places words start reversed room =
-    and_then (checked words start) (λ bases. need (leb bases room) 12 (done (read_places reversed words (start_of start))))
+    and_then (checked words start) (λ bases. need (leb bases room) 12 (Ok (read_places reversed words (start_of start))))

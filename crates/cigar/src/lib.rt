@@ -4,11 +4,10 @@
 
 ghost use Rattle.std.specs.Prelude.{◌≡◌, true, ◌<◌, ◌^◌};
 ghost use Rattle.lent.specs.Lists.{every};
-ghost use Rattle.lent.specs.Outcome.{says};
 ghost use Rattle.cigar.specs.Cigar.{is_known, takes_bases, takes_places, bases_taken, places_taken, query_length, reference_span};
 ghost use Rattle.cigar.specs.Cigar.{is_start, start_of, checked};
 
-use lent::{Refusal, Written};
+use lent::Refusal;
 
 // ---- one operation: a BAM word is length times 16 plus kind
 
@@ -61,14 +60,7 @@ pub fn places_taken(word: u32) -> u64
 fn all_known(cigar: &[u32]) -> bool
     ensures { result ≡ every is_known cigar.now }
 {
-    let mut asked = 0;
-    while asked < cigar.len() {
-        if !is_known(cigar[asked]) {
-            return false;
-        }
-        asked += 1;
-    }
-    true
+    cigar.iter().all(|word| is_known(*word))
 }
 
 // The sums are in 64 bits: they can exceed 32 bits before they are compared with a limit.
@@ -77,10 +69,8 @@ fn query_length(cigar: &[u32]) -> u64
     ensures { result ≡ query_length cigar.now }
 {
     let mut sum = 0;
-    let mut i = 0;
-    while i < cigar.len() {
-        sum += bases_taken(cigar[i]);
-        i += 1;
+    for word in cigar {
+        sum += bases_taken(*word);
     }
     sum
 }
@@ -90,10 +80,8 @@ pub fn reference_span(cigar: &[u32]) -> u64
     ensures { result ≡ reference_span cigar.now }
 {
     let mut sum = 0;
-    let mut i = 0;
-    while i < cigar.len() {
-        sum += places_taken(cigar[i]);
-        i += 1;
+    for word in cigar {
+        sum += places_taken(*word);
     }
     sum
 }
@@ -119,22 +107,22 @@ pub fn start_of(start: i64) -> u64
 
 // ---- the check
 
-// The check of an alignment, without its walk: 13, then 1, or done with the read's number of bases.
-pub fn check(cigar: &[u32], start: i64) -> Written
-    ensures { says result ≡ checked cigar.now start }
+// The check of an alignment, without its walk: Err with 13, then 1, else Ok with the read's number of bases.
+pub fn check(cigar: &[u32], start: i64) -> Result<usize, Refusal>
+    ensures { result ≡ checked cigar.now start }
 {
     if !all_known(cigar) {
-        return Written::Refused(Refusal(13));
+        return Err(Refusal::BadNumber);
     }
     if !is_start(start) {
-        return Written::Refused(Refusal(13));
+        return Err(Refusal::BadNumber);
     }
     if 65535 < cigar.len() {
-        return Written::Refused(Refusal(1));
+        return Err(Refusal::TooLong);
     }
     let bases = query_length(cigar);
     if 16000 < bases {
-        return Written::Refused(Refusal(1));
+        return Err(Refusal::TooLong);
     }
-    Written::Done(bases as usize)
+    Ok(bases as usize)
 }

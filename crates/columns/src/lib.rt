@@ -19,11 +19,7 @@ pub mod marks;
 pub fn clear(counts: &mut [u32])
     ensures { counts.new ≡ tabulate (length counts.old) (λ (i : ℕ). 0) }
 {
-    let mut i = 0;
-    while i < counts.len() {
-        counts[i] = 0;
-        i += 1;
-    }
+    counts.fill(0);
 }
 
 // A count as a tag holds it.
@@ -41,10 +37,8 @@ pub fn put_tag_counts(column: &[u32], counts: &mut [i16])
     requires { length column.now ≤ length counts.old }
     ensures { counts.new ≡ over (as_tag_counts column.now) counts.old }
 {
-    let mut i = 0;
-    while i < column.len() {
-        counts[i] = tag_count(column[i]);
-        i += 1;
+    for (i, &count) in column.iter().enumerate() {
+        counts[i] = tag_count(count);
     }
 }
 
@@ -63,10 +57,8 @@ pub fn gate(informative: &[u8], counts: &mut [u32])
     requires { length informative.now ≡ length counts.old }
     ensures { counts.new ≡ gated_counts informative.now counts.old }
 {
-    let mut i = 0;
-    while i < counts.len() {
+    for i in 0..counts.len() {
         counts[i] = gated_count(informative[i], counts[i]);
-        i += 1;
     }
 }
 
@@ -89,10 +81,8 @@ pub fn restore(bases: &mut [u8], pattern: ConversionPattern, informative: &[u8])
     requires { length informative.now ≡ length bases.old }
     ensures { bases.new ≡ restored pattern informative.now bases.old }
 {
-    let mut i = 0;
-    while i < bases.len() {
+    for i in 0..bases.len() {
         bases[i] = restored_base(bases[i], pattern, informative[i]);
-        i += 1;
     }
 }
 
@@ -101,9 +91,5 @@ pub fn copy_counts(counts: &[u32], out: &mut [u32])
     requires { length counts.now ≤ length out.old }
     ensures { out.new ≡ over counts.now out.old }
 {
-    let mut i = 0;
-    while i < counts.len() {
-        out[i] = counts[i];
-        i += 1;
-    }
+    out[..counts.len()].copy_from_slice(counts);
 }

@@ -7,7 +7,6 @@ ghost use Rattle.pattern.specs.Patterns.{bases_of};
 ghost use Rattle.columns.specs.Columns.{yes_byte, informative_column, as_yes};
 
 use pattern::ConversionPattern;
-use refusals::smaller;
 
 // The byte that is written for a mark.
 fn yes_byte(yes: bool) -> u8
@@ -23,11 +22,7 @@ fn yes_byte(yes: bool) -> u8
 fn clear(informative: &mut [u8])
     ensures { informative.new ≡ tabulate (length informative.old) (λ (i : ℕ). 0) }
 {
-    let mut i = 0;
-    while i < informative.len() {
-        informative[i] = 0; // so also beyond the reference row
-        i += 1;
-    }
+    informative.fill(0); // so also beyond the reference row
 }
 
 // The mark of a position with this reference base: whether it is the pattern's reference base.
@@ -43,11 +38,9 @@ pub fn mark(ref_bases: &[u8], pattern: ConversionPattern, informative: &mut [u8]
     ensures { informative.new ≡ informative_column pattern ref_bases.now (length informative.old) }
 {
     clear(informative);
-    let reached = smaller(ref_bases.len(), informative.len());
-    let mut i = 0;
-    while i < reached {
+    let reached = ref_bases.len().min(informative.len());
+    for i in 0..reached {
         informative[i] = mark_of(ref_bases[i], pattern);
-        i += 1;
     }
 }
 
@@ -56,9 +49,7 @@ pub fn copy_marks(informative: &[u8], out: &mut [u8])
     requires { length informative.now ≤ length out.old }
     ensures { out.new ≡ over (as_yes informative.now) out.old }
 {
-    let mut i = 0;
-    while i < informative.len() {
-        out[i] = yes_byte(informative[i] != 0);
-        i += 1;
+    for (i, &mark) in informative.iter().enumerate() {
+        out[i] = yes_byte(mark != 0);
     }
 }

@@ -13,7 +13,6 @@ use columns::clear;
 use columns::marks::mark;
 use evidence::MethylationEvidence;
 use pattern::ConversionPattern;
-use refusals::smaller;
 
 // Whether a base counts: if all positions count, or if the position is informative and the base is aligned.
 fn counts_there(count_all_positions: bool, informative: u8, aligned: u8) -> bool
@@ -77,9 +76,8 @@ fn count_read(
         (unconverted.new ≡ add_read (bases_of pattern).unconverted all? inf r unconverted.old)
         × (converted.new ≡ add_read (bases_of pattern).converted all? inf r converted.old)) }
 {
-    let reached = smaller(bases.len(), informative.len());
-    let mut i = 0;
-    while i < reached {
+    let reached = bases.len().min(informative.len());
+    for i in 0..reached {
         count_base(
             bases[i],
             aligned[i],
@@ -90,7 +88,6 @@ fn count_read(
             unconverted,
             converted,
         );
-        i += 1;
     }
 }
 
@@ -113,10 +110,9 @@ fn count_reads(
         (unconverted.new ≡ add_reads (bases_of pattern).unconverted all? inf reads unconverted.old)
         × (converted.new ≡ add_reads (bases_of pattern).converted all? inf reads converted.old) }
 {
-    let mut k = 0;
     let mut from = 0;
-    while k < read_lengths.len() {
-        let to = from + read_lengths[k] as usize;
+    for &length in read_lengths {
+        let to = from + length as usize;
         count_read(
             &read_bases[from..to],
             &read_aligned[from..to],
@@ -127,7 +123,6 @@ fn count_reads(
             converted,
         );
         from = to;
-        k += 1;
     }
 }
 

@@ -7,8 +7,8 @@ ghost use Rattle.samtags.specs.Edits.{cut_to, edited};
 ghost use Rattle.samtags.specs.Session.{cut, held_in, step_in_memory, window};
 ghost use Rattle.stepping.specs.Steps.{Ordered, came, leaves_memory, memory, step_says, stored_with};
 
-use lent::{Refusal, Tagged};
-use stepping::{Lengths, Stepped};
+use lent::Refusal;
+use stepping::Lengths;
 
 // SEQ becomes n of its bases, from place `front` on.
 fn cut_to(
@@ -19,7 +19,7 @@ fn cut_to(
     lengths: Lengths,
     front: usize,
     n: usize,
-) -> Stepped
+) -> Result<Lengths, Refusal>
     requires { Ordered has_ml (memory seq.old mm.old ml.old lengths) × (front + n ≤ lengths.seq) }
     ensures { let m = memory seq.old mm.old ml.old lengths in
         came (step_says result) seq.new mm.new ml.new
@@ -28,7 +28,7 @@ fn cut_to(
 {
     let size = lengths.seq;
     let none: [u8; 0] = [];
-    let edited = stepping::tags::edit_front(
+    let (end, kept) = stepping::tags::edit_front(
         &seq[0..size],
         &seq[front..front + n],
         &none,
@@ -38,12 +38,9 @@ fn cut_to(
         lengths.ml,
         mm,
         ml,
-    );
-    let Tagged::Done(end, kept) = edited else {
-        return Stepped::Refused(edited.refusal());
-    };
+    )?;
     moving::move_left(seq, front, 0, n);
-    Stepped::Done(stepping::lengths_now(n, end, kept, has_ml, lengths))
+    Ok(stepping::lengths_now(n, end, kept, has_ml, lengths))
 }
 
 // Cuts `front` bases off the front and `back` bases off the back: 21 if both are 0, 11 if SEQ has fewer bases. The sum may exceed a u32.
@@ -55,17 +52,17 @@ pub fn cut_ends(
     lengths: Lengths,
     front: u32,
     back: u32,
-) -> Stepped
+) -> Result<Lengths, Refusal>
     requires { Ordered has_ml (memory seq.old mm.old ml.old lengths) }
     ensures { let m = memory seq.old mm.old ml.old lengths in
         came (step_says result) seq.new mm.new ml.new ≡ leaves_memory m (step_in_memory has_ml (cut front back) m) }
 {
     let off = front as usize + back as usize;
     if off == 0 {
-        return Stepped::Refused(Refusal(21));
+        return Err(Refusal::Unchanged);
     }
     if lengths.seq < off {
-        return Stepped::Refused(Refusal(11));
+        return Err(Refusal::NoWindow);
     }
     cut_to(
         seq,

@@ -1,5 +1,6 @@
 -- Laws of the rows that an edited tag is written into: one more entry, one more group, and the whole tag.
 -- Assumes nothing.
+use Rattle.std.specs.Prelude.{Ok, Err}
 use mathlib.Core.Path.{◌≡◌, refl, sym, ap, ◌∙◌}
 use Prim.Native.Nat.{ℕ, ◌+◌, ◌≤◌, ◌<◌, min}
 use native.Mathlib.Nat.{add-zero}
@@ -13,7 +14,7 @@ use Rattle.lent.proofs.Stores.{sets_append, sets_part}
 use Rattle.lent.proofs.Tests.{by-test}
 use Rattle.lent.proofs.Outcome.{on_done_inv}
 use Rattle.lent.specs.Lists.{concat_map, filter, last_or}
-use Rattle.lent.specs.Outcome.{Outcome, and_then, done, on_done, refused}
+use Rattle.lent.specs.Outcome.{Outcome, and_then, on_done}
 use Rattle.lent.specs.declared.Refusal.{Refusal}
 use Rattle.samtags.proofs.Length.{change, skips_bare}
 use Rattle.samtags.specs.Edits.{Edit, changed}
@@ -61,32 +62,32 @@ module _ (held dropped : ℕ → Bool) where
   -- the bases that an entry passes, and its call
   pub put_one : (w : Draft) (gap : ℕ) (qs : List ℕ) (p : ℕ) (vs : List ℕ) (c : ℕ) (w' : Draft) (gap' : ℕ) → c ≡ length (filter held qs)
       → entry_put (held p) (dropped p) w (gap + c) vs ≡ (w', gap') → (x : Outcome (List Spot × List ℕ))
-      → on_done (spots_put held dropped w gap) (and_then x (λ r. done (map bare qs ++ call p vs ∷ r.0, r.1))) ≡ on_done (spots_put held dropped w' gap') x
-  put_one w gap qs p vs c w' gap' k o (refused r) = refl
-  put_one w gap qs p vs c w' gap' k o (done r) =
+      → on_done (spots_put held dropped w gap) (and_then x (λ r. Ok (map bare qs ++ call p vs ∷ r.0, r.1))) ≡ on_done (spots_put held dropped w' gap') x
+  put_one w gap qs p vs c w' gap' k o (Err r) = refl
+  put_one w gap qs p vs c w' gap' k o (Ok r) =
       rw (skips_bare held dropped gap qs (call p vs ∷ r.0), values_bare qs (call p vs ∷ r.0), ← k)
-      (ap done (put_call w (gap + c) p vs r ∙ ap (λ (y : Draft × ℕ). spots_put held dropped y.0 y.1 r) o))
+      (ap Ok (put_call w (gap + c) p vs r ∙ ap (λ (y : Draft × ℕ). spots_put held dropped y.0 y.1 r) o))
 
   -- at the group's end no call is left
-  pub put_end : (w : Draft) (gap : ℕ) (places ml : List ℕ) → on_done (spots_put held dropped w gap) (done (map bare places, ml)) ≡ done (w, ml)
+  pub put_end : (w : Draft) (gap : ℕ) (places ml : List ℕ) → on_done (spots_put held dropped w gap) (Ok (map bare places, ml)) ≡ Ok (w, ml)
   put_end w gap places ml =
       rw (← append-nil (map bare places), skips_bare held dropped gap places [], values_bare places [])
-      (ap (λ (x : Draft). done (x, ml)) (more_none w))
+      (ap (λ (x : Draft). Ok (x, ml)) (more_none w))
 
 -- ---- a group
 
 module _ (e : Edit) (h : List ℕ) where
   -- the header, the entries, the ';'
   pub put_group : (w : Draft) (x : Outcome (List Spot × List ℕ))
-      → on_done (group_put e w) (and_then x (λ r. done (record { header = h; spots = r.0 }, r.1)))
+      → on_done (group_put e w) (and_then x (λ r. Ok (record { header = h; spots = r.0 }, r.1)))
       ≡ on_done (λ (y : Draft × List ℕ). (more y.0 (59 ∷ []) [], y.1)) (on_done (spots_put (e.still_held (base_of h)) e.dropped (more w h []) 0) x)
   unfolding changed group_text
-  put_group w (refused r) = refl
-  put_group w (done r) =
+  put_group w (Err r) = refl
+  put_group w (Ok r) =
       let ss = change (e.still_held (base_of h)) e.dropped r.0 in
       let t : List ℕ = entries_text (skips_from 0 ss) in
       let v : List ℕ = concat_map values_of ss in
-      ap (λ (y : Draft). done (y, r.1))
+      ap (λ (y : Draft). Ok (y, r.1))
       (ap (λ (u : List ℕ). more w (h ++ t ++ 59 ∷ []) u) (sym (append-nil v))
       ∙ more_append w (h ++ t) (59 ∷ []) v []
       ∙ ap (λ (y : Draft). more y (59 ∷ []) []) (more_append w h t [] v))
@@ -105,52 +106,52 @@ module _ (lo : ℕ) (after marks : List ℕ) (ml? : Bool) (seq t : List ℕ) (at
   abbrev spots_read : Outcome (List Spot × List ℕ)
   spots_read = read_spots k (denied_in marks u) (led_by 44 (up_to 59 (drop (at + length h) t))) (tracked b seq) ml
 
-  group_read : read_group ml? (is_marked marks) seq (up_to 59 (drop at t)) ml ≡ and_then spots_read (λ r. done (record { header = h; spots = r.0 }, r.1))
+  group_read : read_group ml? (is_marked marks) seq (up_to 59 (drop at t)) ml ≡ and_then spots_read (λ r. Ok (record { header = h; spots = r.0 }, r.1))
   group_read =
       group_on ml? (is_marked marks) seq t at h q ml long
       ∙ (λ j. and_then (read_spots (sym kh j) (λ p. is_marked marks p && not (sym uh j)) (led_by 44 (up_to 59 (drop (at + length h) t)))
       (tracked (sym bh j) seq) ml)
-      (λ r. done (record { header = h; spots = r.0 }, r.1)))
+      (λ r. Ok (record { header = h; spots = r.0 }, r.1)))
 
-  pub group_refused : (r : Refusal) → spots_read ≡ refused r → read_group ml? (is_marked marks) seq (up_to 59 (drop at t)) ml ≡ refused r
+  pub group_refused : (r : Refusal) → spots_read ≡ Err r → read_group ml? (is_marked marks) seq (up_to 59 (drop at t)) ml ≡ Err r
   group_refused r e = group_read ∙ rw e
 
   pub group_put_lem : (out v out₁ : List ℕ) (n : ℕ) → n ≡ 0 + length h → out₁ ≡ sets out 0 h
       → (out₂ : List ℕ) (n₂ : ℕ) (v₂ : List ℕ) (m₂ : ℕ) (left out₃ : List ℕ)
-      → on_done (spots_put (held_in lo after b) (is_marked marks) (draft out₁ n v 0) 0) spots_read ≡ done (draft out₂ n₂ v₂ m₂, left) → out₃ ≡ set out₂ n₂ 59
+      → on_done (spots_put (held_in lo after b) (is_marked marks) (draft out₁ n v 0) 0) spots_read ≡ Ok (draft out₂ n₂ v₂ m₂, left) → out₃ ≡ set out₂ n₂ 59
       → on_done (group_put (window_edit lo after marks) (draft out 0 v 0)) (read_group ml? (is_marked marks) seq (up_to 59 (drop at t)) ml)
-      ≡ done (draft out₃ (n₂ + 1) v₂ m₂, left)
+      ≡ Ok (draft out₃ (n₂ + 1) v₂ m₂, left)
   group_put_lem out v out₁ n sized stored out₂ n₂ v₂ m₂ left out₃ e closed =
       let e' : Edit = window_edit lo after marks in
       ap (on_done (group_put e' (draft out 0 v 0))) group_read
       ∙ put_group e' h (draft out 0 v 0) spots_read
       ∙ ap (on_done (λ (y : Draft × List ℕ). (more y.0 (59 ∷ []) [], y.1)))
       ((λ j. on_done (spots_put (held_in lo after (sym bh j)) (is_marked marks) (header_stored out v h out₁ n sized stored j) 0) spots_read) ∙ e)
-      ∙ ap (λ (y : Draft). done (y, left)) (close_stored out₂ n₂ v₂ m₂ out₃ closed)
+      ∙ ap (λ (y : Draft). Ok (y, left)) (close_stored out₂ n₂ v₂ m₂ out₃ closed)
 
 -- ---- a tag
 
 module _ (e : Edit) where
   -- one group more
   pub put_groups : (w : Draft) (g : Group) (left : List ℕ) (w' : Draft) → group_put e w (g, left) ≡ (w', left) → (o : Outcome (List Group))
-      → on_done (tag_put w) (edited_groups e (and_then o (λ rest. done (g ∷ rest)))) ≡ on_done (tag_put w') (edited_groups e o)
+      → on_done (tag_put w) (edited_groups e (and_then o (λ rest. Ok (g ∷ rest)))) ≡ on_done (tag_put w') (edited_groups e o)
   unfolding written text_of ml_of
-  put_groups w g left w' k (refused r) = refl
-  put_groups w g left w' k (done gs) =
+  put_groups w g left w' k (Err r) = refl
+  put_groups w g left w' k (Ok gs) =
       let rest : Tag = written (map (changed e) gs) in
-      ap done
+      ap Ok
       (more_append w (group_text (changed e g)) rest.text (concat_map values_of (changed e g).spots) rest.ml
       ∙ ap (λ (y : Draft). more y rest.text rest.ml) (ap (λ (y : Draft × List ℕ). y.0) k))
 
   -- no group more
-  pub put_none : (w : Draft) → on_done (tag_put w) (edited_groups e (done [])) ≡ done w
+  pub put_none : (w : Draft) → on_done (tag_put w) (edited_groups e (Ok [])) ≡ Ok w
   unfolding written text_of ml_of
-  put_none w = ap done (more_none w)
+  put_none w = ap Ok (more_none w)
 
 -- a refusal is the reading's own
-pub put_refused : (e : Edit) (w : Draft) (o : Outcome (List Group)) (r : Refusal) → on_done (tag_put w) (edited_groups e o) ≡ refused r → o ≡ refused r
-put_refused e w (refused q) r h = let s : q ≡ r = cc in rw s
-put_refused e w (done gs) r h = let z : ◌≡◌ {A = ℕ} 0 1 = cc in absurd (omega arith)
+pub put_refused : (e : Edit) (w : Draft) (o : Outcome (List Group)) (r : Refusal) → on_done (tag_put w) (edited_groups e o) ≡ Err r → o ≡ Err r
+put_refused e w (Err q) r h = let s : q ≡ r = cc in rw s
+put_refused e w (Ok gs) r h = let z : ◌≡◌ {A = ℕ} 0 1 = cc in absurd (omega arith)
 
 -- what is stored into the parts that begin where the rows' written parts end, or into empty parts if the rows end before, is in the rows
 pub in_parts : (t : List ℕ) (n : ℕ) (v : List ℕ) (m : ℕ) (room ml_room : ℕ) → room ≡ min n (length t) → ml_room ≡ min m (length v)
@@ -168,20 +169,20 @@ in_parts t n v m room ml_room p q x y t' n' v' m' h =
 -- ---- one turn over groups: the group at `at`, and those after it
 
 module _ (e : Edit) (ml? : Bool) (seq t : List ℕ) (at : ℕ) (l : at < length t) (last : last_or 0 t ≡ 59) (ml : List ℕ) where
-  pub groups_refused : (r : Refusal) → read_group ml? e.dropped seq (up_to 59 (drop at t)) ml ≡ refused r
-      → read_groups ml? e.dropped seq (closed_by 59 (drop at t)) ml ≡ refused r
+  pub groups_refused : (r : Refusal) → read_group ml? e.dropped seq (up_to 59 (drop at t)) ml ≡ Err r
+      → read_groups ml? e.dropped seq (closed_by 59 (drop at t)) ml ≡ Err r
   groups_refused r h = groups_at ml? e.dropped seq t at l last ml ∙ rw h
 
-  groups_next : (g : Group) (left : List ℕ) (next : ℕ) → read_group ml? e.dropped seq (up_to 59 (drop at t)) ml ≡ done (g, left)
+  groups_next : (g : Group) (left : List ℕ) (next : ℕ) → read_group ml? e.dropped seq (up_to 59 (drop at t)) ml ≡ Ok (g, left)
       → next ≡ at + length (up_to 59 (drop at t)) + 1
       → read_groups ml? e.dropped seq (closed_by 59 (drop at t)) ml
-      ≡ and_then (read_groups ml? e.dropped seq (closed_by 59 (drop next t)) left) (λ gs. done (g ∷ gs))
+      ≡ and_then (read_groups ml? e.dropped seq (closed_by 59 (drop next t)) left) (λ gs. Ok (g ∷ gs))
   groups_next g left next h s = groups_at ml? e.dropped seq t at l last ml ∙ rw (h, s)
 
   pub groups_turn : (out : List ℕ) (n : ℕ) (v : List ℕ) (m room ml_room : ℕ) → room ≡ min n (length out) → ml_room ≡ min m (length v)
       → (next : ℕ) → next ≡ at + length (up_to 59 (drop at t)) + 1 → (t' : List ℕ) (n' : ℕ) (v' : List ℕ) (m' : ℕ) (left : List ℕ)
       → on_done (group_put e (draft (drop room out) 0 (drop ml_room v) 0)) (read_group ml? e.dropped seq (up_to 59 (drop at t)) ml)
-      ≡ done (draft t' n' v' m', left)
+      ≡ Ok (draft t' n' v' m', left)
       → on_done (tag_put (draft out n v m)) (edited_groups e (read_groups ml? e.dropped seq (closed_by 59 (drop at t)) ml))
       ≡ on_done (tag_put (draft (take room out ++ t') (n + n') (take ml_room v ++ v') (m + m')))
       (edited_groups e (read_groups ml? e.dropped seq (closed_by 59 (drop next t)) left))
@@ -197,8 +198,8 @@ module _ (e : Edit) (ml? : Bool) (seq t : List ℕ) (at : ℕ) (l : at < length 
       let w : Draft = draft (take room out ++ t') (n + n') (take ml_room v ++ v') (m + m') in
       let whole : more (draft out n v m) (group_text (changed e g)) (concat_map values_of (changed e g).spots) ≡ w =
       in_parts out n v m room ml_room p q (group_text (changed e g)) (concat_map values_of (changed e g).spots) t' n' v' m' stored in
-      let reads : read_groups ml? e.dropped seq (closed_by 59 (drop at t)) ml ≡ and_then rest (λ gs. done (g ∷ gs)) =
+      let reads : read_groups ml? e.dropped seq (closed_by 59 (drop at t)) ml ≡ and_then rest (λ gs. Ok (g ∷ gs)) =
       groups_next g i.0.1 next i.1 s
-      ∙ ap (λ (x : List ℕ). and_then (read_groups ml? e.dropped seq (closed_by 59 (drop next t)) x) (λ gs. done (g ∷ gs))) same in
+      ∙ ap (λ (x : List ℕ). and_then (read_groups ml? e.dropped seq (closed_by 59 (drop next t)) x) (λ gs. Ok (g ∷ gs))) same in
       ap (λ (o : Outcome (List Group)). on_done (tag_put (draft out n v m)) (edited_groups e o)) reads
       ∙ put_groups e (draft out n v m) g left w (ap (λ (y : Draft). (y, left)) whole) rest

@@ -11,10 +11,10 @@ ghost use Rattle.samtags.specs.Spots.{tracked};
 ghost use Rattle.samtags.specs.Reading.{read_spots, read_group, read_groups};
 ghost use Rattle.fields.specs.Fields.{field_of};
 ghost use Rattle.strides.specs.Counts.{Told};
-ghost use Rattle.drafting.specs.Walks.{EntriesEdited, GroupEdited, TagEdited, edited_refusal, pen_of, cursor_at};
+ghost use Rattle.drafting.specs.Walks.{EntriesEdited, GroupEdited, TagEdited, pen_of, cursor_at};
 ghost use Rattle.changing.specs.Windows.{held_in, is_marked, denied_in, window_edit};
 
-use entries::{Kind, Pen, Reached};
+use entries::{Kind, Pen};
 use lent::Refusal;
 use places::Place;
 use strides::Window;
@@ -45,28 +45,10 @@ impl Cursor {
         ensures { result ≡ cursor_at at used pen }
     {
         Cursor {
-            at: at,
-            used: used,
+            at,
+            used,
             end: pen.end,
             kept: pen.kept,
-        }
-    }
-}
-
-#[derive(Clone, Copy)]
-pub enum Edited {
-    To(Cursor),
-    Refused(Refusal),
-}
-
-impl Edited {
-    // The refusal, unchanged. `To` gives the number 0.
-    pub fn refusal(self) -> Refusal
-        ensures { result ≡ edited_refusal self }
-    {
-        match self {
-            Edited::To(_) => Refusal(0),
-            Edited::Refused(refusal) => refusal,
         }
     }
 }
@@ -83,7 +65,7 @@ fn edit_entries(
     start: Cursor,
     out: &mut [u8],
     ml_out: &mut [u8],
-) -> Edited
+) -> Result<Cursor, Refusal>
     requires seq_len_bound { (length seq.now ≤ 16000) × (length text.now ≤ 65536) × (length ml.now ≤ 65536) × Told window after.now seq.now }
     requires text_in_bounds { start.at + length (up_to semicolon (drop start.at text.now)) < length text.now }
     requires text_len { length (field_of (drop start.at text.now)) ≡ 0 }
@@ -99,13 +81,13 @@ fn edit_entries(
     let mut used = start.used;
     let mut pen = start.pen();
     let mut from = Place(0);
+    // A cursor, not a count: an entry's field is as long as it is.
     while text[at] == b',' {
         let field = fields::next_field(text, at + 1);
         let left = ml.len() - used;
-        let reached = entries::read_entry(seq, after, marks, field, window, kind, from, left);
-        let Reached::On(place, passed) = reached else {
-            return Edited::Refused(reached.refusal());
-        };
+        let (place, passed) = entries::read_entry(
+            seq, after, marks, field, window, kind, from, left,
+        )?;
         let waiting = pen.past(passed);
         let own = &ml[used..used + values];
         pen = entries::put_entry(after, marks, window, kind, place, own, waiting, out, ml_out);
@@ -113,7 +95,7 @@ fn edit_entries(
         used = used + values;
         at = at + 1 + field.len();
     }
-    Edited::To(Cursor::behind(at, used, pen))
+    Ok(Cursor::behind(at, used, pen))
 }
 
 // Edits the group that begins at a byte of the text, up to and including its ';', into the rows from their starts on.
@@ -129,7 +111,7 @@ fn edit_group(
     used: usize,
     out: &mut [u8],
     ml_out: &mut [u8],
-) -> Edited
+) -> Result<Cursor, Refusal>
     requires seq_len_bound { (length seq.now ≤ 16000) × (length text.now ≤ 65536) × (length ml.now ≤ 65536) × Told window after.now seq.now }
     requires text_in_bounds { at + length (up_to semicolon (drop at text.now)) < length text.now }
     requires used_in_bounds { used ≤ length ml.now }
@@ -140,38 +122,25 @@ fn edit_group(
 {
     let header = fields::next_field(text, at);
     if header.len() < 2 {
-        return Edited::Refused(Refusal(5));
+        return Err(Refusal::ShortHeader);
     }
     let kind = entries::kind_of(has_ml, header);
     let end = entries::put_all(out, 0, header);
     let from = Cursor {
         at: at + header.len(),
-        used: used,
-        end: end,
+        used,
+        end,
         kept: 0,
     };
-    let edited = edit_entries(seq, after, marks, text, ml, window, kind, from, out, ml_out);
-    let Edited::To(stop) = edited else {
-        return edited;
-    };
+    let stop = edit_entries(seq, after, marks, text, ml, window, kind, from, out, ml_out)?;
     let last = stop.end;
     numbers::put(out, last, b';');
-    Edited::To(Cursor {
+    Ok(Cursor {
         at: stop.at + 1,
         used: stop.used,
         end: last + 1,
         kept: stop.kept,
     })
-}
-
-// The smaller of the two.
-fn at_most(n: usize, most: usize) -> usize
-    ensures { result ≡ min n most }
-{
-    if n < most {
-        return n;
-    }
-    most
 }
 
 // Edits all groups of a text that ends in ';'. Each is written where the last one ended. After the last group no value of ML may be left over.
@@ -185,7 +154,7 @@ pub fn edit_groups(
     has_ml: bool,
     out: &mut [u8],
     ml_out: &mut [u8],
-) -> Edited
+) -> Result<Cursor, Refusal>
     requires { (length seq.now ≤ 16000) × (length text.now ≤ 65536) × (length ml.now ≤ 65536) × (last_or 0 text.now ≡ semicolon) }
     ensures { TagEdited (window_edit lo after.now marks.now)
         (read_groups has_ml (is_marked marks.now) seq.now (closed_by semicolon text.now) ml.now)
@@ -199,10 +168,11 @@ pub fn edit_groups(
         end: 0,
         kept: 0,
     };
+    // A cursor, not a count: a group is as long as it is.
     while c.at < text.len() {
-        let room = at_most(c.end, out.len());
-        let ml_room = at_most(c.kept, ml_out.len());
-        let edited = edit_group(
+        let room = c.end.min(out.len());
+        let ml_room = c.kept.min(ml_out.len());
+        let group = edit_group(
             seq,
             after,
             marks,
@@ -214,10 +184,7 @@ pub fn edit_groups(
             c.used,
             &mut out[room..],
             &mut ml_out[ml_room..],
-        );
-        let Edited::To(group) = edited else {
-            return edited;
-        };
+        )?;
         c = Cursor {
             at: group.at,
             used: group.used,
@@ -226,7 +193,7 @@ pub fn edit_groups(
         };
     }
     if c.used < ml.len() {
-        return Edited::Refused(Refusal(9));
+        return Err(Refusal::MlLeftOver);
     }
-    Edited::To(c)
+    Ok(c)
 }

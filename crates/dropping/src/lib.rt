@@ -8,8 +8,8 @@ ghost use Rattle.samtags.specs.Edits.{edited};
 ghost use Rattle.samtags.specs.Session.{drop_calls, held_in, step_in_memory};
 ghost use Rattle.stepping.specs.Steps.{Ordered, came, leaves_memory, memory, step_says, stored_with};
 
-use lent::Tagged;
-use stepping::{Lengths, Stepped};
+use lent::Refusal;
+use stepping::Lengths;
 
 // Drops the calls at the marked places; SEQ stays.
 pub fn drop_marked(
@@ -19,7 +19,7 @@ pub fn drop_marked(
     has_ml: bool,
     lengths: Lengths,
     marks: &[u8],
-) -> Stepped
+) -> Result<Lengths, Refusal>
     requires { Ordered has_ml (memory seq.now mm.old ml.old lengths) }
     ensures { let m = memory seq.now mm.old ml.old lengths in
         came (step_says result) seq.now mm.new ml.new
@@ -27,7 +27,7 @@ pub fn drop_marked(
         (edited (window_edit 0 (held_in m).seq marks.now) has_ml (held_in m).seq (held_in m).text (held_in m).ml)) }
 {
     let n = lengths.seq;
-    let edited = stepping::tags::edit_front(
+    let (end, kept) = stepping::tags::edit_front(
         &seq[0..n],
         &seq[0..n],
         marks,
@@ -37,11 +37,8 @@ pub fn drop_marked(
         lengths.ml,
         mm,
         ml,
-    );
-    let Tagged::Done(end, kept) = edited else {
-        return Stepped::Refused(edited.refusal());
-    };
-    Stepped::Done(stepping::lengths_now(n, end, kept, has_ml, lengths))
+    )?;
+    Ok(stepping::lengths_now(n, end, kept, has_ml, lengths))
 }
 
 // The dropping step of a session whose lengths are in order. `marks` is a row to mark the places in: it has no mark yet and is at least as long as SEQ.
@@ -53,7 +50,7 @@ pub fn drop_with(
     lengths: Lengths,
     places: &[u32],
     marks: &mut [u8],
-) -> Stepped
+) -> Result<Lengths, Refusal>
     requires { Ordered has_ml (memory seq.now mm.old ml.old lengths)
         × (lengths.seq ≤ length marks.old) × Unmarked (length marks.old) marks.old }
     ensures { let m = memory seq.now mm.old ml.old lengths in

@@ -6,15 +6,13 @@ use mathlib.Core.Bool.{true, ◌||◌}
 use mathlib.Core.List.{List, [], ◌∷◌}
 use lib.Dec.{eqb}
 use lib.ListN.{replicate}
-use Rattle.duplex.specs.Answers.{duplex_says}
 use Rattle.duplex.specs.PublicContracts.{Duplexes, Rows, lengths_lent}
 use Rattle.duplex.specs.Duplex.{Duplexed, admitted, duplex_tags, duplexed, lengths_of, rows, strand, strands_of, within}
-use Rattle.duplex.specs.declared.Duplex.{Duplex}
 use Rattle.duplex.specs.declared.Lengths.{Lengths}
 use Rattle.lent.proofs.Answers.{answers, only_and_then, only_need, only_on_done}
 use Rattle.lent.specs.Answers.{Answers, refuses_only}
 use Rattle.lent.specs.Lists.{every}
-use Rattle.lent.specs.Outcome.{number_of, on_done}
+use Rattle.lent.specs.Outcome.{Outcome, number_of, on_done}
 use Rattle.pattern.specs.declared.ConversionPattern.TheVariants.{CToT, GToA}
 use Rattle.pattern.specs.declared.MethylationMode.{MethylationMode}
 use Rattle.pattern.specs.declared.MethylationMode.TheVariants.{EmSeq}
@@ -35,8 +33,8 @@ duplex_tags_only count mode bases a b lent =
     (only_need duplex_numbers (every (λ s. evidence_agrees s.evidence bases) strands) 2 _ refl refl)))
     (λ (d : Duplexed). only_need duplex_numbers (within (lengths_of d) lent) 12 _ refl refl)
 
-pub duplex_methylation_tags_numbers : (count : ℕ) (mode : MethylationMode) (bases : List ℕ) (a b : Strand) (lent : Rows) (r : Duplex) (left : Rows)
-    → Duplexes count mode bases a b lent r left → Answers (1 ∷ 2 ∷ 12 ∷ 13 ∷ []) (duplex_says r)
+pub duplex_methylation_tags_numbers : (count : ℕ) (mode : MethylationMode) (bases : List ℕ) (a b : Strand) (lent : Rows) (r : Outcome Lengths) (left : Rows)
+    → Duplexes count mode bases a b lent r left → Answers (1 ∷ 2 ∷ 12 ∷ 13 ∷ []) r
 duplex_methylation_tags_numbers count mode bases a b lent r left d =
     let o = duplex_tags count mode bases a b (lengths_lent lent) in
     rw d.0 (answers _ (on_done lengths_of o) refl (only_on_done duplex_numbers lengths_of o (duplex_tags_only count mode bases a b (lengths_lent lent))))

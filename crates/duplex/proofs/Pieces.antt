@@ -1,5 +1,6 @@
 -- The parts of the answer, as the code computes them from the strands' own tags and columns.
 -- Assumes nothing.
+use Rattle.std.specs.Prelude.{Ok}
 use mathlib.Core.Path.{◌∙◌, ◌≡◌, ap, refl, sym}
 use Prim.Native.Nat.{◌+◌, ◌<◌, min, ℕ, ◌≤◌}
 use native.Mathlib.Omega.{arith}
@@ -18,7 +19,7 @@ use Rattle.joining.specs.Order.{first_of, all_counts, in_order_of, second_of, se
 use Rattle.lent.proofs.Tabulate.{length_tabulate, map_tabulate, tabulate_ext, tabulate_get_d}
 use Rattle.lent.proofs.Tests.{and_true_l, and_true_r, by-test}
 use Rattle.lent.specs.Lists.{concat_map, sum, tabulate}
-use Rattle.lent.specs.Outcome.{Outcome, and_then, done, need}
+use Rattle.lent.specs.Outcome.{Outcome, and_then, need}
 use Rattle.pattern.specs.declared.ConversionPattern.{ConversionPattern}
 use Rattle.pattern.specs.declared.MethylationMode.{MethylationMode}
 use Rattle.samtags.proofs.Building.{joined_fits_the_domain}
@@ -242,10 +243,10 @@ module _ (count : ℕ) (mode : MethylationMode) (bases : List ℕ) (a b : Strand
 
   -- the answer, once it is known whether it fits
   pub room_asked : {A : Type 0} (x y : A) → Passed count bases a b x y
-      → duplex_tags count mode bases a b lent ≡ need (within (lengths_of answer) lent) 12 (done answer)
+      → duplex_tags count mode bases a b lent ≡ need (within (lengths_of answer) lent) 12 (Ok answer)
   unfolding duplex_tags
   room_asked x y p =
       let d = duplexed (eqb count 2) mode bases a b in
       let is : d ≡ answer = pieces_are (eqb count 2) mode bases a b (known count bases a b x y p) in
-      let ok : admitted count bases a b d ≡ done d = passes_too count bases a b x y d p in
-      ap (λ (o : Outcome Duplexed). and_then o (λ d. need (within (lengths_of d) lent) 12 (done d))) (ok ∙ ap done is)
+      let ok : admitted count bases a b d ≡ Ok d = passes_too count bases a b x y d p in
+      ap (λ (o : Outcome Duplexed). and_then o (λ d. need (within (lengths_of d) lent) 12 (Ok d))) (ok ∙ ap Ok is)

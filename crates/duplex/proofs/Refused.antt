@@ -1,5 +1,7 @@
 -- A call that answers a number other than 0 has written nothing.
 -- Assumes nothing.
+use Rattle.lent.specs.Outcome.{Outcome}
+use Rattle.duplex.specs.declared.Lengths.{Lengths}
 use mathlib.Core.Path.{◌≡◌}
 use Prim.Native.Nat.{ℕ}
 use mathlib.Core.Bool.{false}
@@ -8,17 +10,15 @@ use Rattle.lent.proofs.Answers.{not_done, row_kept}
 use Rattle.lent.specs.Answers.{is_done}
 use Rattle.pattern.specs.declared.MethylationMode.{MethylationMode}
 use Rattle.samtags.specs.Building.{Strand}
-use Rattle.duplex.specs.Answers.{duplex_says}
 use Rattle.duplex.specs.PublicContracts.{Duplexes, Rows, lengths_lent}
 use Rattle.duplex.specs.Duplex.{duplex_tags, lengths_of}
-use Rattle.duplex.specs.declared.Duplex.{Duplex}
 
 -- all eleven rows
-pub duplex_methylation_tags_refused : (count : ℕ) (mode : MethylationMode) (bases : List ℕ) (a b : Strand) (lent : Rows) (r : Duplex) (left : Rows)
-    → Duplexes count mode bases a b lent r left → is_done (duplex_says r) ≡ false → left ≡ lent
+pub duplex_methylation_tags_refused : (count : ℕ) (mode : MethylationMode) (bases : List ℕ) (a b : Strand) (lent : Rows) (r : Outcome Lengths) (left : Rows)
+    → Duplexes count mode bases a b lent r left → is_done r ≡ false → left ≡ lent
 duplex_methylation_tags_refused count mode bases a b lent r left h d =
     let o = duplex_tags count mode bases a b (lengths_lent lent) in
-    let n = not_done lengths_of o (duplex_says r) h.0 d in
+    let n = not_done lengths_of o r h.0 d in
     let seq = row_kept _ o lent.seq left.seq h.1 n in
     let mm = row_kept _ o lent.mm left.mm h.2 n in
     let ml = row_kept _ o lent.ml left.ml h.3 n in

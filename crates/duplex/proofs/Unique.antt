@@ -1,25 +1,16 @@
 -- The public call's contract determines its outcome, the answer and every lent row: two outcomes that meet the contract are equal.
 -- Assumes nothing.
-use mathlib.Core.Path.{◌≡◌, ap}
+use Rattle.lent.specs.Outcome.{Outcome}
+use Rattle.duplex.specs.declared.Lengths.{Lengths}
+use mathlib.Core.Path.{◌≡◌}
 use Prim.Native.Nat.{ℕ}
-use native.Mathlib.Omega.{arith}
 use mathlib.Core.List.{List}
 use Rattle.lent.proofs.Filled.{settled}
-use Rattle.lent.proofs.Outcome.{done_inj}
 use Rattle.pattern.specs.declared.MethylationMode.{MethylationMode}
 use Rattle.samtags.specs.Building.{Strand}
-use Rattle.duplex.specs.Answers.{duplex_says}
 use Rattle.duplex.specs.PublicContracts.{Duplexes, Rows, eleven_rows}
-use Rattle.duplex.specs.declared.Duplex.{Duplex}
-use Rattle.duplex.specs.declared.Duplex.TheVariants as duplex
 
-duplex_says_inj : (r s : Duplex) → duplex_says r ≡ duplex_says s → r ≡ s
-duplex_says_inj (duplex.Done k) (duplex.Done l) e = ap duplex.Done (done_inj e)
-duplex_says_inj (duplex.Done k) (duplex.Refused t) e = let z : ◌≡◌ {A = ℕ} 0 1 = cc in absurd (omega arith)
-duplex_says_inj (duplex.Refused q) (duplex.Done l) e = let z : ◌≡◌ {A = ℕ} 0 1 = cc in absurd (omega arith)
-duplex_says_inj (duplex.Refused q) (duplex.Refused t) e = let p : q ≡ t = cc in ap duplex.Refused p
-
-pub duplex_methylation_tags_unique : (count : ℕ) (mode : MethylationMode) (bases : List ℕ) (a b : Strand) (lent : Rows) (r s : Duplex) (k l : Rows)
+pub duplex_methylation_tags_unique : (count : ℕ) (mode : MethylationMode) (bases : List ℕ) (a b : Strand) (lent : Rows) (r s : Outcome Lengths) (k l : Rows)
     → Duplexes count mode bases a b lent r k → Duplexes count mode bases a b lent s l → (r ≡ s) × (k ≡ l)
 duplex_methylation_tags_unique count mode bases a b lent r s k l e f =
     let seq = settled k.seq l.seq e.1 f.1 in
@@ -33,6 +24,6 @@ duplex_methylation_tags_unique count mode bases a b lent r s k l e f =
     let mm₂ = settled k.second_mm l.second_mm e.9 f.9 in
     let u₂ = settled k.second_unconverted l.second_unconverted e.10 f.10 in
     let c₂ = settled k.second_converted l.second_converted e.11 f.11 in (
-      duplex_says_inj r s (settled (duplex_says r) (duplex_says s) e.0 f.0),
+      settled r s e.0 f.0,
       λ j. eleven_rows (seq j) (mm j) (ml j) (u j) (c j) (mm₁ j) (u₁ j) (c₁ j) (mm₂ j) (u₂ j) (c₂ j),
     )

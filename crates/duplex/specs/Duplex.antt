@@ -1,8 +1,8 @@
 -- The SEQ, the tags and the counts of a record with one strand or two: what the answer holds, and when the call is refused.
 -- Assumes nothing.
-use Rattle.std.specs.Prelude.{ℕ, Bool, cond, ◌&&◌, ◌||◌, List, [], ◌∷◌, map, ℤ, length, get_or, leb, eqb}
+use Rattle.std.specs.Prelude.{ℕ, Bool, cond, ◌&&◌, ◌||◌, List, [], ◌∷◌, map, ℤ, length, get_or, leb, eqb, Ok}
 use Rattle.lent.specs.Lists.{every, tabulate, sum}
-use Rattle.lent.specs.Outcome.{Outcome, done, need, and_then}
+use Rattle.lent.specs.Outcome.{Outcome, need, and_then}
 use Rattle.pattern.specs.declared.ConversionPattern.{ConversionPattern}
 use Rattle.pattern.specs.declared.MethylationMode.{MethylationMode}
 use Rattle.evidence.specs.Position.{capped}
@@ -117,10 +117,10 @@ admitted count bases a b x =
     need (eqb count 1 || eqb count 2) 13
     (need (every (λ s. evidence_in_domain s.evidence bases) strands) 1
     (need (every (λ s. evidence_agrees s.evidence bases) strands) 2
-    (done x)))
+    (Ok x)))
 
 -- last 12; never 20
 unfoldable pub duplex_tags : ℕ → MethylationMode → List ℕ → Strand → Strand → Lengths → Outcome Duplexed
 unfolding admitted duplexed
 duplex_tags count mode bases a b lent =
-    and_then (admitted count bases a b (duplexed (eqb count 2) mode bases a b)) (λ d. need (within (lengths_of d) lent) 12 (done d))
+    and_then (admitted count bases a b (duplexed (eqb count 2) mode bases a b)) (λ d. need (within (lengths_of d) lent) 12 (Ok d))

@@ -1,4 +1,3 @@
 pub mod Duplex
-pub mod Answers
 pub mod Measured
 pub mod PublicContracts

@@ -1,23 +1,11 @@
 -- The answer of the first pass. These are contracts of private functions; no promise rests on them.
 -- Assumes nothing.
 use Rattle.std.specs.Prelude.{ℕ, ◌+◌, Bool, cond, List, length}
-use Rattle.lent.specs.Outcome.{Outcome, refused, done, refusal}
-use Rattle.lent.specs.declared.Refusal.{Refusal}
 use Rattle.pattern.specs.declared.MethylationMode.{MethylationMode}
 use Rattle.samtags.specs.Building.{Strand, own_tag}
 use Rattle.joining.specs.Order.{restored_by_both, second_tag}
 use Rattle.joining.specs.declared.BothSizes.{BothSizes}
 use Rattle.duplex.specs.declared.Lengths.{Lengths}
-use Rattle.duplex.specs.declared.Measured.{Measured}
-use Rattle.duplex.specs.declared.Measured.TheVariants as measured
-
-abbrev pub measured_says : Measured → Outcome BothSizes
-measured_says (measured.Done s) = done s
-measured_says (measured.Refused r) = refused r
-
-abbrev pub measured_refusal : Measured → Refusal
-measured_refusal (measured.Done s) = refusal 0
-measured_refusal (measured.Refused r) = r
 
 -- SEQ restored by the strands
 abbrev pub restored_seq : Bool → List ℕ → Strand → Strand → List ℕ

@@ -3,12 +3,10 @@
 -- Assumes nothing.
 use Rattle.std.specs.Prelude.{◌≡◌, ℕ, List, ℤ, length}
 use Rattle.lent.specs.Filled.{leaves}
-use Rattle.lent.specs.Outcome.{on_done}
+use Rattle.lent.specs.Outcome.{Outcome, on_done}
 use Rattle.pattern.specs.declared.MethylationMode.{MethylationMode}
 use Rattle.samtags.specs.Building.{Strand}
-use Rattle.duplex.specs.Answers.{duplex_says}
 use Rattle.duplex.specs.Duplex.{Duplexed, duplex_tags, lengths_of, rows}
-use Rattle.duplex.specs.declared.Duplex.{Duplex}
 use Rattle.duplex.specs.declared.Lengths.{Lengths}
 
 -- the eleven lent rows
@@ -57,10 +55,10 @@ lengths_lent l = rows
     (length l.second_converted)
 
 -- `duplex_methylation_tags`: the number of strands, chemistry, consensus, the strands and the rows; the answer, and the rows after the call
-abbrev pub Duplexes : ℕ → MethylationMode → List ℕ → Strand → Strand → Rows → Duplex → Rows → Type 0
+abbrev pub Duplexes : ℕ → MethylationMode → List ℕ → Strand → Strand → Rows → Outcome Lengths → Rows → Type 0
 Duplexes count mode bases a b lent r left =
     let o = duplex_tags count mode bases a b (lengths_lent lent) in
-    (duplex_says r ≡ on_done lengths_of o)
+    (r ≡ on_done lengths_of o)
     × (left.seq ≡ leaves (λ (d : Duplexed). d.seq) o lent.seq)
     × (left.mm ≡ leaves (λ (d : Duplexed). d.joined.text) o lent.mm)
     × (left.ml ≡ leaves (λ (d : Duplexed). d.joined.ml) o lent.ml)

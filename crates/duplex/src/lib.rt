@@ -10,7 +10,7 @@ ghost use Rattle.std.specs.Prelude.{◌≡◌, true, cond, ◌&&◌, ◌||◌, �
 ghost use Rattle.samtags.specs.Building.{columns, evidence_in_domain, evidence_agrees};
 ghost use Rattle.duplex.specs.Duplex.{strand, within, admitted};
 ghost use Rattle.duplex.specs.PublicContracts.{Duplexes, eleven_rows};
-ghost use Rattle.duplex.specs.Measured.{measured_says, measured_refusal, restored_seq, both_sizes, part_lengths};
+ghost use Rattle.duplex.specs.Measured.{restored_seq, both_sizes, part_lengths};
 
 use joining::BothSizes;
 use lent::Refusal;
@@ -30,32 +30,6 @@ pub struct Lengths {
     pub second_mm: usize,
     pub second_unconverted: usize,
     pub second_converted: usize,
-}
-
-// How many entries of each row are filled, or why nothing was written.
-#[derive(Clone, Copy)]
-pub enum Duplex {
-    Done(Lengths),
-    Refused(Refusal),
-}
-
-// The result of the first pass: the lengths of the strands' own tags, or why the call is refused.
-#[derive(Clone, Copy)]
-pub enum Measured {
-    Done(BothSizes),
-    Refused(Refusal),
-}
-
-impl Measured {
-    // The refusal, unchanged. `Done` gives the number 0.
-    fn refusal(self) -> Refusal
-        ensures { result ≡ measured_refusal self }
-    {
-        match self {
-            Measured::Done(_) => Refusal(0),
-            Measured::Refused(refusal) => refusal,
-        }
-    }
 }
 
 // Whether the number of strands is 1 or 2.
@@ -110,15 +84,15 @@ fn measure(
     second_informative: &[u8],
     second_unconverted: &[u32],
     second_converted: &[u32],
-) -> Measured
+) -> Result<BothSizes, Refusal>
     ensures { let a = strand first first_informative.now first_unconverted.now first_converted.now in
         let b = strand second second_informative.now second_unconverted.now second_converted.now in
         let two? = eqb strands 2 in
-        measured_says result ≡ admitted strands bases.now a b (both_sizes two? mode (restored_seq two? bases.now a b) a b) }
+        result ≡ admitted strands bases.now a b (both_sizes two? mode (restored_seq two? bases.now a b) a b) }
 {
     let known = is_count(strands);
     if !known {
-        return Measured::Refused(Refusal(13));
+        return Err(Refusal::BadNumber);
     }
     let two = strands == 2;
     let first_short = strand::in_domain(
@@ -128,7 +102,7 @@ fn measure(
         first_converted,
     );
     if !first_short {
-        return Measured::Refused(Refusal(1));
+        return Err(Refusal::TooLong);
     }
     let second_short = second_in_domain(
         two,
@@ -138,11 +112,11 @@ fn measure(
         second_converted,
     );
     if !second_short {
-        return Measured::Refused(Refusal(1));
+        return Err(Refusal::TooLong);
     }
     let first_same = strand::agree(bases, first_informative, first_unconverted, first_converted);
     if !first_same {
-        return Measured::Refused(Refusal(2));
+        return Err(Refusal::LengthsDisagree);
     }
     let second_same = second_agrees(
         two,
@@ -152,9 +126,9 @@ fn measure(
         second_converted,
     );
     if !second_same {
-        return Measured::Refused(Refusal(2));
+        return Err(Refusal::LengthsDisagree);
     }
-    Measured::Done(joining::measure(
+    Ok(joining::measure(
         bases,
         mode,
         two,
@@ -228,9 +202,9 @@ fn within(parts: Lengths, rows: Lengths) -> bool
 }
 
 // Writes SEQ, MM and ML, the combined counts (`cu`, `ct`), and each strand's own text and counts (`am`, `au`, `at` and `bm`, `bu`, `bt`) into lent
-// rows. Done with the number of filled entries of each row. If there is no call or no chemistry, SEQ and counts are written and the texts are empty.
-// 13 if there are not 1 or 2 strands, 1 if an input is too long, 2 if the consensus and a strand's columns differ in length, 12 if a row has no room.
-// With a refusal every row is unchanged.
+// rows. Ok with the number of filled entries of each row. If there is no call or no chemistry, SEQ and counts are written and the texts are empty.
+// Err with 13 if there are not 1 or 2 strands, 1 if an input is too long, 2 if the consensus and a strand's columns differ in length, 12 if a row has
+// no room. With a refusal every row is unchanged.
 pub fn duplex_methylation_tags(
     bases: &[u8],
     strands: usize,
@@ -254,7 +228,7 @@ pub fn duplex_methylation_tags(
     second_mm: &mut [u8],
     second_unconverted_counts: &mut [i16],
     second_converted_counts: &mut [i16],
-) -> Duplex
+) -> Result<Lengths, Refusal>
     ensures { Duplexes strands methylation_mode bases.now
         (strand first first_informative.now first_unconverted.now first_converted.now)
         (strand second second_informative.now second_unconverted.now second_converted.now)
@@ -266,7 +240,7 @@ pub fn duplex_methylation_tags(
         first_mm.new first_unconverted_counts.new first_converted_counts.new
         second_mm.new second_unconverted_counts.new second_converted_counts.new) }
 {
-    let asked = measure(
+    let sizes = measure(
         bases,
         methylation_mode,
         strands,
@@ -278,10 +252,7 @@ pub fn duplex_methylation_tags(
         second_informative,
         second_unconverted,
         second_converted,
-    );
-    let Measured::Done(sizes) = asked else {
-        return Duplex::Refused(asked.refusal());
-    };
+    )?;
     let two = strands == 2;
     let parts = part_lengths(two, bases.len(), sizes);
     let roomy = within(
@@ -301,7 +272,7 @@ pub fn duplex_methylation_tags(
         },
     );
     if !roomy {
-        return Duplex::Refused(Refusal(12));
+        return Err(Refusal::NoRoom);
     }
     joining::restore(
         bases,
@@ -356,5 +327,5 @@ pub fn duplex_methylation_tags(
         sizes.second_text,
         mm,
     );
-    Duplex::Done(parts)
+    Ok(parts)
 }

@@ -1,9 +1,8 @@
 -- The scope's examples (a) to (l): a row is a letter, a request, and the answer that the scope gives.
 -- Assumes nothing.
-use Rattle.std.specs.Prelude.{ℕ, true, false, List, [], ◌∷◌, map, ◌≡◌, pos}
+use Rattle.std.specs.Prelude.{ℕ, true, false, List, [], ◌∷◌, map, ◌≡◌, pos, Ok, None, Some}
 use Prim.Native.String.{String}
-use Rattle.std.proofs.Math.Option.{none, some}
-use Rattle.lent.specs.Outcome.{Outcome, done, refuse}
+use Rattle.lent.specs.Outcome.{Outcome, refuse}
 use Rattle.cigar.specs.Cigar.{missing}
 use Rattle.samtags.specs.Bytes.{ascii}
 use Rattle.samtags.specs.Spots.{Call}
@@ -26,28 +25,28 @@ clipped = 36 ∷ 48 ∷ 18 ∷ 32 ∷ []
 
 abbrev pub edges : List Edge
 edges =
-    edge "a" (calls "ACGT" "" (some [])) (refuse 4)
-    ∷ edge "b" (calls "ACGT" ";" (some [])) (refuse 5)
-    ∷ edge "c" (calls "ACGT" "C+m?;" (some [])) (done (listed ([] ∷ [])))
-    ∷ edge "d" (calls "CCC" "C+m?,+1;" none) (refuse 6)
-    ∷ edge "e" (calls "CCC" "C+m?,2;" none) (done (listed ((at 2 [] ∷ []) ∷ [])))
-    ∷ edge "e" (calls "CCC" "C+m?,3;" none) (refuse 7)
-    ∷ edge "f" (calls "C" "C+m?,0;" (some [])) (refuse 8)
-    ∷ edge "f" (calls "C" "C+m?,0;" (some (1 ∷ 2 ∷ []))) (refuse 9)
-    ∷ edge "f" (calls "C" "C+mh?,0;" (some (1 ∷ 2 ∷ []))) (done (listed ((at 0 (1 ∷ 2 ∷ []) ∷ []) ∷ [])))
-    ∷ edge "g" (calls "C" "C+76792?,0;" (some (7 ∷ []))) (done (listed ((at 0 (7 ∷ []) ∷ []) ∷ [])))
-    ∷ edge "h" (drop "C" (0 ∷ []) "C+m,0;" none) (refuse 10)
-    ∷ edge "h" (drop "C" (0 ∷ []) "C+m?,0;" none) (done (tag (ascii "C+m?;") []))
-    ∷ edge "i" (mask "CCAC" "CNAC" "C+m?,0,1;" none) (done (tag (ascii "C+m?,0,0;") []))
-    ∷ edge "j" (build 1 1) (done (tag (ascii "C+m?,0;") (128 ∷ [])))
-    ∷ edge "j" (build 1 0) (done (tag (ascii "C+m?,0;") (255 ∷ [])))
-    ∷ edge "j" (build 1 2) (done (tag (ascii "C+m?,0;") (85 ∷ [])))
-    ∷ edge "j" (build 0 5) (done (tag (ascii "C+m?,0;") (0 ∷ [])))
-    ∷ edge "k" (place false clipped 100) (done (placed (missing ∷ missing ∷ pos 100 ∷ pos 101 ∷ pos 102 ∷ pos 104 ∷ pos 105 ∷ [])))
-    ∷ edge "k" (place true clipped 100) (done (placed (pos 105 ∷ pos 104 ∷ pos 102 ∷ pos 101 ∷ pos 100 ∷ missing ∷ missing ∷ [])))
-    ∷ edge "l" (cut "ACGT" "CG" (some 1) "C+m?,0;" none) (done (tag (ascii "C+m?,0;") []))
-    ∷ edge "l" (cut "ACGT" "CG" (some 2) "C+m?,0;" none) (refuse 11)
-    ∷ edge "l" (cut "ACGT" "CG" none "C+m?,0;" none) (refuse 11)
+    edge "a" (calls "ACGT" "" (Some [])) (refuse 4)
+    ∷ edge "b" (calls "ACGT" ";" (Some [])) (refuse 5)
+    ∷ edge "c" (calls "ACGT" "C+m?;" (Some [])) (Ok (listed ([] ∷ [])))
+    ∷ edge "d" (calls "CCC" "C+m?,+1;" None) (refuse 6)
+    ∷ edge "e" (calls "CCC" "C+m?,2;" None) (Ok (listed ((at 2 [] ∷ []) ∷ [])))
+    ∷ edge "e" (calls "CCC" "C+m?,3;" None) (refuse 7)
+    ∷ edge "f" (calls "C" "C+m?,0;" (Some [])) (refuse 8)
+    ∷ edge "f" (calls "C" "C+m?,0;" (Some (1 ∷ 2 ∷ []))) (refuse 9)
+    ∷ edge "f" (calls "C" "C+mh?,0;" (Some (1 ∷ 2 ∷ []))) (Ok (listed ((at 0 (1 ∷ 2 ∷ []) ∷ []) ∷ [])))
+    ∷ edge "g" (calls "C" "C+76792?,0;" (Some (7 ∷ []))) (Ok (listed ((at 0 (7 ∷ []) ∷ []) ∷ [])))
+    ∷ edge "h" (drop "C" (0 ∷ []) "C+m,0;" None) (refuse 10)
+    ∷ edge "h" (drop "C" (0 ∷ []) "C+m?,0;" None) (Ok (tag (ascii "C+m?;") []))
+    ∷ edge "i" (mask "CCAC" "CNAC" "C+m?,0,1;" None) (Ok (tag (ascii "C+m?,0,0;") []))
+    ∷ edge "j" (build 1 1) (Ok (tag (ascii "C+m?,0;") (128 ∷ [])))
+    ∷ edge "j" (build 1 0) (Ok (tag (ascii "C+m?,0;") (255 ∷ [])))
+    ∷ edge "j" (build 1 2) (Ok (tag (ascii "C+m?,0;") (85 ∷ [])))
+    ∷ edge "j" (build 0 5) (Ok (tag (ascii "C+m?,0;") (0 ∷ [])))
+    ∷ edge "k" (place false clipped 100) (Ok (placed (missing ∷ missing ∷ pos 100 ∷ pos 101 ∷ pos 102 ∷ pos 104 ∷ pos 105 ∷ [])))
+    ∷ edge "k" (place true clipped 100) (Ok (placed (pos 105 ∷ pos 104 ∷ pos 102 ∷ pos 101 ∷ pos 100 ∷ missing ∷ missing ∷ [])))
+    ∷ edge "l" (cut "ACGT" "CG" (Some 1) "C+m?,0;" None) (Ok (tag (ascii "C+m?,0;") []))
+    ∷ edge "l" (cut "ACGT" "CG" (Some 2) "C+m?,0;" None) (refuse 11)
+    ∷ edge "l" (cut "ACGT" "CG" None "C+m?,0;" None) (refuse 11)
     ∷ []
 
 -- the claim of the list: the definitions of the public calls answer each request with the answer in its row

@@ -1,8 +1,7 @@
 -- The requests of the scope's examples, and the answers that the definitions of the public calls give to them.
 -- Assumes nothing.
-use Rattle.std.specs.Prelude.{ℕ, Bool, true, false, List, [], ◌∷◌, map, ℤ, pos}
+use Rattle.std.specs.Prelude.{ℕ, Bool, true, false, List, [], ◌∷◌, map, ℤ, pos, Option, None, Some}
 use Prim.Native.String.{String}
-use Rattle.std.proofs.Math.Option.{Option, none, some}
 use Rattle.lent.specs.Outcome.{Outcome, on_done}
 use Rattle.pattern.specs.declared.ConversionPattern.TheVariants.{CToT}
 use Rattle.pattern.specs.declared.MethylationMode.TheVariants.{EmSeq}
@@ -33,12 +32,12 @@ pub data Answer : Type 0 where
   placed : List ℤ → Answer
 
 abbrev pub is_there : Option (List ℕ) → Bool
-is_there none = false
-is_there (some ml) = true
+is_there None = false
+is_there (Some ml) = true
 
 abbrev pub values_of : Option (List ℕ) → List ℕ
-values_of none = []
-values_of (some ml) = ml
+values_of None = []
+values_of (Some ml) = ml
 
 abbrev pub listing : List Listing → Answer
 listing ls = listed (map (λ (l : Listing). l.calls) ls)

@@ -3,18 +3,16 @@
 // its functions may have a `requires`.
 #![tactic(auto)]
 
-ghost use Rattle.std.specs.Prelude.{◌≡◌, cond, [], ◌≤◌, length};
+ghost use Rattle.std.specs.Prelude.{◌≡◌, cond, [], ◌≤◌, length, Ok};
 ghost use Rattle.samtags.specs.Edits.{edited, in_room};
 ghost use Rattle.samtags.specs.Reading.{in_domain};
 ghost use Rattle.samtags.specs.Writing.{Tag};
-ghost use Rattle.lent.specs.Outcome.{tag_says, done};
 ghost use Rattle.editing.specs.Rewrote.{rewrote, leaves_tag};
 ghost use Rattle.editing.specs.Tags.{TagMeasured};
 ghost use Rattle.changing.specs.Windows.{window_edit};
 
-use drafting::Edited;
-use lent::{Refusal, Tagged};
-use measuring::Counted;
+use drafting::Cursor;
+use lent::Refusal;
 
 // Whether the lengths of SEQ, text and ML are within the domain. Without ML the ML row is ignored.
 pub fn in_domain(seq: &[u8], mm: &[u8], ml: &[u8], has_ml: bool) -> bool
@@ -39,18 +37,18 @@ pub fn measure(
     ml: &[u8],
     lo: usize,
     has_ml: bool,
-) -> Edited
+) -> Result<Cursor, Refusal>
     requires { (length seq.now ≤ 16000) × (length mm.now ≤ 65536) × (length ml.now ≤ 65536) × (cond has_ml ml.now [] ≡ ml.now) }
     ensures { TagMeasured
         (edited (window_edit lo after.now marks.now) has_ml seq.now mm.now ml.now) result }
 {
     let ascii = fields::all_ascii(mm);
     if !ascii {
-        return Edited::Refused(Refusal(3));
+        return Err(Refusal::MmNotAscii);
     }
     let closed = fields::ends_in_semicolon(mm);
     if !closed {
-        return Edited::Refused(Refusal(4));
+        return Err(Refusal::MmNotClosed);
     }
     let mut no_text: [u8; 0] = [];
     let mut no_ml: [u8; 0] = [];
@@ -78,28 +76,26 @@ fn edit_measured(
     has_ml: bool,
     mm_out: &mut [u8],
     ml_out: &mut [u8],
-) -> Tagged
+) -> Result<(usize, usize), Refusal>
     requires { (length seq.now ≤ 16000) × (length mm.now ≤ 65536) × (cond has_ml (length ml.now) 0 ≤ 65536) }
-    ensures { rewrote (tag_says result) mm_out.new ml_out.new
+    ensures { rewrote result mm_out.new ml_out.new
         ≡ leaves_tag has_ml
         (in_room has_ml (length mm_out.old) (length ml_out.old)
         (edited (window_edit lo after.now marks.now) has_ml seq.now mm.now ml.now))
         mm_out.old ml_out.old }
 {
     let taken = scanning::values_taken(ml.len(), has_ml);
-    let measured = measure(seq, after, marks, mm, &ml[0..taken], lo, has_ml);
-    let Edited::To(size) = measured else {
-        return Tagged::Refused(measured.refusal());
-    };
+    let size = measure(seq, after, marks, mm, &ml[0..taken], lo, has_ml)?;
     let end = size.end;
     let kept = size.kept;
     if mm_out.len() < end {
-        return Tagged::Refused(Refusal(12));
+        return Err(Refusal::NoRoom);
     }
     if ml_out.len() < kept {
-        return Tagged::Refused(Refusal(12));
+        return Err(Refusal::NoRoom);
     }
-    drafting::edit_groups(
+    // What refuses a tag was found over the empty rows.
+    let _ = drafting::edit_groups(
         seq,
         after,
         marks,
@@ -110,7 +106,7 @@ fn edit_measured(
         mm_out,
         ml_out,
     );
-    Tagged::Done(end, kept)
+    Ok((end, kept))
 }
 
 // Writes a tag that is not refused into rows at least as long as the tag was. An edited tag is never longer, so the walk itself gives its lengths.
@@ -124,24 +120,21 @@ fn edit_checked(
     has_ml: bool,
     mm_out: &mut [u8],
     ml_out: &mut [u8],
-) -> Tagged
+) -> Result<(usize, usize), Refusal>
     requires seq_len_bound { (length seq.now ≤ 16000) × (length mm.now ≤ 65536) × (length ml.now ≤ 65536) × (cond has_ml ml.now [] ≡ ml.now) }
     requires mm_in_bounds { (length mm.now ≤ length mm_out.old) × (length ml.now ≤ length ml_out.old) }
-    requires ml_value { (t : Tag) × (edited (window_edit lo after.now marks.now) has_ml seq.now mm.now ml.now ≡ done t) }
-    ensures { rewrote (tag_says result) mm_out.new ml_out.new
+    requires ml_value { (t : Tag) × (edited (window_edit lo after.now marks.now) has_ml seq.now mm.now ml.now ≡ Ok t) }
+    ensures { rewrote result mm_out.new ml_out.new
         ≡ leaves_tag has_ml
         (in_room has_ml (length mm_out.old) (length ml_out.old)
         (edited (window_edit lo after.now marks.now) has_ml seq.now mm.now ml.now))
         mm_out.old ml_out.old }
 {
-    let written = drafting::edit_groups(seq, after, marks, mm, ml, lo, has_ml, mm_out, ml_out);
-    let Edited::To(size) = written else {
-        return Tagged::Refused(written.refusal());
-    };
-    Tagged::Done(size.end, size.kept)
+    let size = drafting::edit_groups(seq, after, marks, mm, ml, lo, has_ml, mm_out, ml_out)?;
+    Ok((size.end, size.kept))
 }
 
-// Edits a tag into rows at least as long as the tag was. The first walk needs no places. If it is `Unsure`, the tag is measured.
+// Edits a tag into rows at least as long as the tag was. The first walk needs no places. If it is unsure, the tag is measured.
 fn edit_roomy(
     seq: &[u8],
     after: &[u8],
@@ -152,19 +145,19 @@ fn edit_roomy(
     has_ml: bool,
     mm_out: &mut [u8],
     ml_out: &mut [u8],
-) -> Tagged
+) -> Result<(usize, usize), Refusal>
     requires seq_len_bound { (length seq.now ≤ 16000) × (length mm.now ≤ 65536) × (cond has_ml (length ml.now) 0 ≤ 65536) }
     requires mm_in_bounds { (length mm.now ≤ length mm_out.old) × (cond has_ml (length ml.now) 0 ≤ length ml_out.old) }
-    ensures { rewrote (tag_says result) mm_out.new ml_out.new
+    ensures { rewrote result mm_out.new ml_out.new
         ≡ leaves_tag has_ml
         (in_room has_ml (length mm_out.old) (length ml_out.old)
         (edited (window_edit lo after.now marks.now) has_ml seq.now mm.now ml.now))
         mm_out.old ml_out.old }
 {
     let taken = scanning::values_taken(ml.len(), has_ml);
-    let counted = measuring::count_tag(seq, mm, &ml[0..taken], has_ml, marks.len() != 0);
+    let counted = measuring::count_tag(seq, mm, &ml[0..taken], has_ml, marks.len() != 0)?;
     match counted {
-        Counted::To(_) => edit_checked(
+        Some(_) => edit_checked(
             seq,
             after,
             marks,
@@ -175,8 +168,7 @@ fn edit_roomy(
             mm_out,
             ml_out,
         ),
-        Counted::Refused(refusal) => Tagged::Refused(refusal),
-        Counted::Unsure => edit_measured(seq, after, marks, mm, ml, lo, has_ml, mm_out, ml_out),
+        None => edit_measured(seq, after, marks, mm, ml, lo, has_ml, mm_out, ml_out),
     }
 }
 
@@ -191,9 +183,9 @@ pub fn edit_tag(
     has_ml: bool,
     mm_out: &mut [u8],
     ml_out: &mut [u8],
-) -> Tagged
+) -> Result<(usize, usize), Refusal>
     requires { (length seq.now ≤ 16000) × (length mm.now ≤ 65536) × (cond has_ml (length ml.now) 0 ≤ 65536) }
-    ensures { rewrote (tag_says result) mm_out.new ml_out.new
+    ensures { rewrote result mm_out.new ml_out.new
         ≡ leaves_tag has_ml
         (in_room has_ml (length mm_out.old) (length ml_out.old)
         (edited (window_edit lo after.now marks.now) has_ml seq.now mm.now ml.now))

@@ -9,12 +9,11 @@ ghost use Rattle.samtags.specs.Text.{base_of, ends_in_question};
 ghost use Rattle.samtags.specs.Writing.{entry_text};
 ghost use Rattle.strides.specs.Counts.{Told, between, held_between};
 ghost use Rattle.places.specs.Walk.{tracked_from};
-ghost use Rattle.entries.specs.Answers.{reached_says, reached_refusal, past_by};
+ghost use Rattle.entries.specs.Answers.{reached_says, past_by};
 ghost use Rattle.changing.specs.Drafts.{passing, with_passed, draft, entry_put};
 ghost use Rattle.changing.specs.Windows.{held_in, is_marked, denied_in};
 
 use lent::Refusal;
-use numbers::Skip;
 use places::{Ordinal, Place};
 use strides::{Stride, Window};
 
@@ -36,28 +35,9 @@ pub fn kind_of(has_ml: bool, header: &[u8]) -> Kind
     let base = headers::base_of(header);
     let may_drop = headers::ends_in_question(header);
     Kind {
-        base: base,
-        values: values,
-        may_drop: may_drop,
-    }
-}
-
-// The place of an entry's base, and how many of the bases that it passes are still of the group's kind; or why there is no such base.
-#[derive(Clone, Copy)]
-pub enum Reached {
-    On(Place, Ordinal),
-    Refused(Refusal),
-}
-
-impl Reached {
-    // The refusal, unchanged. `On` gives the number 0.
-    pub fn refusal(self) -> Refusal
-        ensures { result ≡ reached_refusal self }
-    {
-        match self {
-            Reached::On(_, _) => Refusal(0),
-            Reached::Refused(refusal) => refusal,
-        }
+        base,
+        values,
+        may_drop,
     }
 }
 
@@ -107,7 +87,7 @@ pub fn pass_tracked(
     base: u8,
     from: Place,
     skip: Ordinal,
-) -> Reached
+) -> Result<(Place, Ordinal), Refusal>
     requires { (from.0 ≤ length seq.now) × (length seq.now ≤ 16000) × Told window after.now seq.now }
     ensures { reached_says result
         ≡ passing (held_in window.lo after.now base) 0 skip.0 (tracked_from base from.0 seq.now) }
@@ -115,21 +95,18 @@ pub fn pass_tracked(
     let start = ahead(seq, after, window, base, from.0, skip.0);
     let mut ordinal = Ordinal(start.passed);
     let mut held = Ordinal(start.held);
-    let mut pos = Place(start.place);
-    while pos.0 < seq.len() {
-        let at = pos.0;
+    for at in start.place..seq.len() {
         let hit = strides::counts(base, seq[at]);
         if hit {
             if ordinal.0 == skip.0 {
-                return Reached::On(pos, held);
+                return Ok((Place(at), held));
             }
             ordinal = Ordinal(ordinal.0 + 1);
-            let still = stays(after, window, base, pos);
+            let still = stays(after, window, base, Place(at));
             held = one_more(held, still);
         }
-        pos = Place(at + 1);
     }
-    Reached::Refused(Refusal(7))
+    Err(Refusal::SkipTooFar)
 }
 
 // Reads an entry, from a place on and with `left` values of ML left: 6 if its field is no number, 7 if SEQ has too few bases for it, 8 if some of its
@@ -143,7 +120,7 @@ pub fn read_entry(
     kind: Kind,
     from: Place,
     left: usize,
-) -> Reached
+) -> Result<(Place, Ordinal), Refusal>
     requires { (from.0 ≤ length seq.now) × (length seq.now ≤ 16000) × Told window after.now seq.now }
     ensures { reached_says result
         ≡ with_passed (held_in window.lo after.now kind.base) (value field.now)
@@ -151,42 +128,23 @@ pub fn read_entry(
         (read_entry kind.values (denied_in marks.now kind.may_drop) field.now
         (tracked_from kind.base from.0 seq.now) left) }
 {
-    let read = numbers::read_skip(field, 16001);
-    let Skip::Of(skip) = read else {
-        return Reached::Refused(read.refusal());
-    };
-    let reached = pass_tracked(seq, after, window, kind.base, from, Ordinal(skip));
-    let Reached::On(place, _) = reached else {
-        return reached;
-    };
+    let skip = numbers::read_skip(field, 16001)?;
+    let (place, passed) = pass_tracked(seq, after, window, kind.base, from, Ordinal(skip))?;
     if left < kind.values {
-        return Reached::Refused(Refusal(8));
+        return Err(Refusal::MlTooShort);
     }
     let denied = changing::is_denied(marks, kind.may_drop, place);
     if denied {
-        return Reached::Refused(Refusal(10));
+        return Err(Refusal::DropWithoutMark);
     }
-    reached
-}
-
-// The smaller of the two.
-fn at_most(n: usize, most: usize) -> usize
-    ensures { result ≡ min n most }
-{
-    if n < most {
-        return n;
-    }
-    most
+    Ok((place, passed))
 }
 
 // How many of `bytes` bytes a row has room for, from an index on.
 fn fitting(room: usize, at: usize, bytes: usize) -> usize
     ensures { result ≡ min bytes (room - at) }
 {
-    if room <= at {
-        return 0;
-    }
-    at_most(bytes, room - at)
+    bytes.min(room.saturating_sub(at))
 }
 
 // Writes bytes from an index on, as far as the room reaches, and returns the index after them.
@@ -195,10 +153,8 @@ pub fn put_all(out: &mut [u8], at: usize, bytes: &[u8]) -> usize
     ensures { (result ≡ at + length bytes.now) × (out.new ≡ sets out.old at bytes.now) }
 {
     let n = fitting(out.len(), at, bytes.len());
-    let mut i = 0;
-    while i < n {
+    for i in 0..n {
         out[at + i] = bytes[i];
-        i += 1;
     }
     at + bytes.len()
 }
@@ -261,8 +217,8 @@ pub fn put_entry(
     let named = changing::is_named(marks, place);
     if named {
         return Pen {
-            end: end,
-            kept: kept,
+            end,
+            kept,
             gap: gap + 1,
         };
     }

@@ -1,5 +1,6 @@
 -- A row whose first records are gated, and the row that `gate_row` leaves.
 -- Assumes nothing.
+use Rattle.lent.specs.Outcome.{Outcome}
 use mathlib.Core.Path.{◌≡◌, sym, ◌∙◌}
 use Prim.Native.Nat.{ℕ, suc, ◌≤◌, ◌<◌}
 use native.Mathlib.Omega.{arith}
@@ -11,7 +12,6 @@ use Rattle.lent.proofs.Filled.{leaves_done, leaves_refused, over_all}
 use Rattle.lent.proofs.InPlace.{changed_up_to, length_changed, changed_more, changed_not_yet, changed_is_map}
 use Rattle.lent.proofs.Tests.{by-test}
 use Rattle.lent.specs.Filled.{leaves}
-use Rattle.lent.specs.declared.Written.{Written}
 use Rattle.evidence.specs.PublicContracts.{GatesRow}
 use Rattle.evidence.specs.Position.{gated}
 use Rattle.evidence.specs.Row.{gated_row, row_of, records_to_gate}
@@ -43,7 +43,7 @@ row_is_left row = by-test (leb (length row) 16000)
     (λ e. rw e (sym (leaves_refused (λ (n : ℕ). map gated row) _ row)))
 
 -- what the contract says of a row that the domain allows: each record is gated
-pub short_row_gated : (row : List MethylationEvidence) (r : Written) (row' : List MethylationEvidence) → length row ≤ 16000
+pub short_row_gated : (row : List MethylationEvidence) (r : Outcome ℕ) (row' : List MethylationEvidence) → length row ≤ 16000
     → GatesRow row r row' → row' ≡ gated_row row
 unfolding gated_row row_of
 short_row_gated row r row' h p =

@@ -1,13 +1,11 @@
 -- Each public call's contract determines its outcome, the answer and every lent row: two outcomes that meet the contract are equal.
 -- Assumes nothing.
+use Rattle.lent.specs.Outcome.{Outcome}
 use mathlib.Core.Path.{◌≡◌}
 use Prim.Native.Nat.{ℕ}
 use mathlib.Core.Bool.{Bool}
 use mathlib.Core.List.{List}
 use Rattle.lent.proofs.Filled.{settled}
-use Rattle.lent.proofs.Outcome.{says_inj}
-use Rattle.lent.specs.Outcome.{says}
-use Rattle.lent.specs.declared.Written.{Written}
 use Rattle.pattern.specs.declared.ConversionPattern.{ConversionPattern}
 use Rattle.evidence.specs.PublicContracts.{StartsEvidence, CountsBase, GatesPosition, GatesRow}
 use Rattle.evidence.specs.declared.MethylationEvidence.{MethylationEvidence}
@@ -23,6 +21,6 @@ pub gated_unique : (e r s : MethylationEvidence) → GatesPosition e r → Gates
 gated_unique e r s = settled r s
 
 -- the answer, and the row
-pub gate_row_unique : (row : List MethylationEvidence) (r s : Written) (l m : List MethylationEvidence)
+pub gate_row_unique : (row : List MethylationEvidence) (r s : Outcome ℕ) (l m : List MethylationEvidence)
     → GatesRow row r l → GatesRow row s m → (r ≡ s) × (l ≡ m)
-gate_row_unique row r s l m a b = (says_inj r s (settled (says r) (says s) a.0 b.0), settled l m a.1 b.1)
+gate_row_unique row r s l m a b = ((settled r s a.0 b.0), settled l m a.1 b.1)

@@ -1,10 +1,9 @@
 -- The promise of each public call: one proposition per call, about its arguments, its answer and the lent row after the call. The call's `ensures`
 -- cites it, and every theorem about the call uses it.
 -- Assumes nothing.
+use Rattle.lent.specs.Outcome.{Outcome}
 use Rattle.std.specs.Prelude.{◌≡◌, ℕ, Bool, List, length}
 use Rattle.lent.specs.Filled.{leaves}
-use Rattle.lent.specs.Outcome.{says}
-use Rattle.lent.specs.declared.Written.{Written}
 use Rattle.pattern.specs.declared.ConversionPattern.{ConversionPattern}
 use Rattle.evidence.specs.Position.{fresh, counted, gated}
 use Rattle.evidence.specs.Row.{gated_row, row_of}
@@ -23,5 +22,5 @@ abbrev pub GatesPosition : MethylationEvidence → MethylationEvidence → Type 
 GatesPosition e r = r ≡ gated e
 
 -- `gate_row`: a lent row of records, the answer, and the row after the call
-abbrev pub GatesRow : List MethylationEvidence → Written → List MethylationEvidence → Type 0
-GatesRow row r row' = (says r ≡ row_of (length row)) × (row' ≡ leaves (λ (n : ℕ). gated_row row) (row_of (length row)) row)
+abbrev pub GatesRow : List MethylationEvidence → Outcome ℕ → List MethylationEvidence → Type 0
+GatesRow row r row' = (r ≡ row_of (length row)) × (row' ≡ leaves (λ (n : ℕ). gated_row row) (row_of (length row)) row)

@@ -1,7 +1,7 @@
 -- Gating over a row of evidence records.
 -- Assumes nothing.
-use Rattle.std.specs.Prelude.{ℕ, cond, List, map, leb}
-use Rattle.lent.specs.Outcome.{Outcome, done, need}
+use Rattle.std.specs.Prelude.{ℕ, cond, List, map, leb, Ok}
+use Rattle.lent.specs.Outcome.{Outcome, need}
 use Rattle.evidence.specs.Position.{gated}
 use Rattle.evidence.specs.declared.MethylationEvidence.{MethylationEvidence}
 
@@ -9,9 +9,9 @@ use Rattle.evidence.specs.declared.MethylationEvidence.{MethylationEvidence}
 unfoldable pub gated_row : List MethylationEvidence → List MethylationEvidence
 gated_row row = map gated row
 
--- 1 for more than 16,000 records; else done with the number of records
+-- 1 for more than 16,000 records; else Ok with the number of records
 unfoldable pub row_of : ℕ → Outcome ℕ
-row_of n = need (leb n 16000) 1 (done n)
+row_of n = need (leb n 16000) 1 (Ok n)
 
 -- how many of the records are gated
 abbrev pub records_to_gate : ℕ → ℕ

@@ -5,12 +5,11 @@
 #![tactic(auto)]
 
 ghost use Rattle.std.specs.Prelude.{◌≡◌, ◌+◌};
-ghost use Rattle.lent.specs.Outcome.{says};
 ghost use Rattle.evidence.specs.PublicContracts.{StartsEvidence, CountsBase, GatesPosition, GatesRow};
 ghost use Rattle.evidence.specs.Position.{capped};
 ghost use Rattle.evidence.specs.Row.{gated_row, row_of, records_to_gate};
 
-use lent::{Refusal, Written};
+use lent::Refusal;
 use pattern::ConversionPattern;
 
 // The evidence of one position: whether it carries a call for the strand, and how many of the counted reads show the unconverted and the converted
@@ -28,7 +27,7 @@ impl MethylationEvidence {
         ensures { StartsEvidence informative result }
     {
         MethylationEvidence {
-            informative: informative,
+            informative,
             unconverted: 0,
             converted: 0,
         }
@@ -45,13 +44,13 @@ impl MethylationEvidence {
             return MethylationEvidence {
                 informative: self.informative,
                 unconverted: one_more(unconverted),
-                converted: converted,
+                converted,
             };
         }
         if pattern::eq_ignore_ascii_case(base, bases.converted) {
             return MethylationEvidence {
                 informative: self.informative,
-                unconverted: unconverted,
+                unconverted,
                 converted: one_more(converted),
             };
         }
@@ -79,16 +78,13 @@ fn one_more(count: u32) -> u32
     count + 1
 }
 
-// Gates a lent row of evidence records, as `gate_to_informative` gates the columns. Refused with 1 for more than 16,000 records.
-pub fn gate_row(row: &mut [MethylationEvidence]) -> Written
+// Gates a lent row of evidence records, as `gate_to_informative` gates the columns. Ok with the number of records; Err with 1 for more than 16,000.
+pub fn gate_row(row: &mut [MethylationEvidence]) -> Result<usize, Refusal>
     ensures { GatesRow row.old result row.new }
 {
     let n = records_to_gate(row.len());
-    let mut i = 0;
-    while i < n {
-        let e = row[i];
-        row[i] = e.gated();
-        i += 1;
+    for e in row[..n].iter_mut() {
+        *e = e.gated();
     }
     answer_for_row(row.len())
 }
@@ -98,7 +94,8 @@ fn gated_three(row: [MethylationEvidence; 3]) -> [MethylationEvidence; 3]
     ensures { result ≡ gated_row row }
 {
     let mut own = row;
-    gate_row(&mut own);
+    // Three records are never too many.
+    let _ = gate_row(&mut own);
     own
 }
 
@@ -112,11 +109,11 @@ fn records_to_gate(records: usize) -> usize
     records
 }
 
-fn answer_for_row(records: usize) -> Written
-    ensures { says result ≡ row_of records }
+fn answer_for_row(records: usize) -> Result<usize, Refusal>
+    ensures { result ≡ row_of records }
 {
     if 16000 < records {
-        return Written::Refused(Refusal(1));
+        return Err(Refusal::TooLong);
     }
-    Written::Done(records)
+    Ok(records)
 }

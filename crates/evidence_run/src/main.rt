@@ -7,7 +7,7 @@
 ghost use Rattle.std.specs.Prelude.{◌≤◌};
 
 use evidence::{MethylationEvidence, gate_row};
-use lent::Written;
+use lent::Refusal;
 use std::io;
 
 // No count is 0, so the counts show whether a record was gated.
@@ -23,10 +23,8 @@ fn record_at(i: usize) -> MethylationEvidence {
 fn all_records() -> [MethylationEvidence; 16001] {
     let none = MethylationEvidence::new(false);
     let mut row = [none; 16001];
-    let mut i = 0;
-    while i < 16001 {
-        row[i] = record_at(i);
-        i += 1;
+    for (i, record) in row.iter_mut().enumerate() {
+        *record = record_at(i);
     }
     row
 }
@@ -34,7 +32,7 @@ fn all_records() -> [MethylationEvidence; 16001] {
 // The answer of the call, and the whole array after the call.
 #[derive(Clone, Copy)]
 struct Left {
-    answer: Written,
+    answer: Result<usize, Refusal>,
     row: [MethylationEvidence; 16001],
 }
 
@@ -44,24 +42,21 @@ fn gated(row: [MethylationEvidence; 16001], n: usize) -> Left
 {
     let mut own = row;
     let answer = gate_row(&mut own[0..n]);
-    Left {
-        answer: answer,
-        row: own,
-    }
+    Left { answer, row: own }
 }
 
 fn print(rt: &impl Print, number: u64, after: &str) -> io::Result<()> {
     print!(rt; "{number}{after}")
 }
 
-fn print_answer(rt: &impl Print, r: Written) -> io::Result<()> {
+fn print_answer(rt: &impl Print, r: Result<usize, Refusal>) -> io::Result<()> {
     match r {
-        Written::Done(n) => {
+        Ok(n) => {
             print(rt, 0, "\t")?;
             print(rt, n as u64, "\t")
         }
-        Written::Refused(refusal) => {
-            print(rt, refusal.0 as u64, "\t")?;
+        Err(refusal) => {
+            print(rt, refusal.number() as u64, "\t")?;
             print(rt, 0, "\t")
         }
     }

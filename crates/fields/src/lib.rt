@@ -11,17 +11,15 @@ pub fn next_field(text: &[u8], from: usize) -> &[u8]
     requires { from ≤ length text.now }
     ensures { result.now ≡ field_of (drop from text.now) }
 {
-    let mut end = from;
-    while end < text.len() {
+    for end in from..text.len() {
         if text[end] == b',' {
             return &text[from..end];
         }
         if text[end] == b';' {
             return &text[from..end];
         }
-        end += 1;
     }
-    &text[from..end]
+    &text[from..]
 }
 
 // Whether no byte is above 127. It looks at all bytes, which is faster than stopping at the first one: sixteen are looked at in one step.
@@ -29,12 +27,10 @@ pub fn all_ascii(text: &[u8]) -> bool
     ensures { result ≡ every is_ascii text.now }
 {
     let mut ascii = true;
-    let mut i = 0;
-    while i < text.len() {
-        if 127 < text[i] {
+    for &b in text {
+        if 127 < b {
             ascii = false;
         }
-        i += 1;
     }
     ascii
 }
@@ -43,8 +39,8 @@ pub fn all_ascii(text: &[u8]) -> bool
 pub fn ends_in_semicolon(text: &[u8]) -> bool
     ensures { result ≡ eqb (last_or 0 text.now) semicolon }
 {
-    if text.len() == 0 {
-        return false;
+    match text.last() {
+        Some(&b) => b == b';',
+        None => false,
     }
-    text[text.len() - 1] == b';'
 }

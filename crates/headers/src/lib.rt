@@ -23,15 +23,7 @@ fn is_mark(b: u8) -> bool
 fn all_digits(codes: &[u8]) -> bool
     ensures { result ≡ every is_digit codes.now }
 {
-    let mut i = 0;
-    while i < codes.len() {
-        let digit = is_digit(codes[i]);
-        if !digit {
-            return false;
-        }
-        i += 1;
-    }
-    true
+    codes.iter().all(|&b| is_digit(b))
 }
 
 // The codes: a part of the header, without its first two bytes and without the marks at its end.
@@ -39,15 +31,12 @@ pub fn codes(header: &[u8]) -> &[u8]
     requires { 2 ≤ length header.now }
     ensures { result.now ≡ codes_of header.now }
 {
-    let mut end = header.len();
-    while 2 < end {
-        let mark = is_mark(header[end - 1]);
-        if !mark {
-            return &header[2..end];
+    for last in (2..header.len()).rev() {
+        if !is_mark(header[last]) {
+            return &header[2..=last];
         }
-        end -= 1;
     }
-    &header[2..end]
+    &header[2..2]
 }
 
 // How many ML values a listed base takes.

@@ -1,5 +1,6 @@
 -- The rows of a tag after it was edited in them.
 -- Assumes nothing.
+use Rattle.std.specs.Prelude.{Ok, Err}
 use mathlib.Core.Path.{◌≡◌, sym, ap, ◌∙◌}
 use Prim.Native.Nat.{ℕ, ◌≤◌}
 use native.Mathlib.Omega.{arith}
@@ -11,7 +12,7 @@ use borrow.Rule.Slice.PartMut.{put_mid}
 use Rattle.editing.specs.Rewrote.{leaves_tag, rewrote, values_with}
 use Rattle.lent.proofs.Filled.{over_part_front, over_stored}
 use Rattle.lent.specs.Filled.{leaves, over}
-use Rattle.lent.specs.Outcome.{Outcome, done, refused}
+use Rattle.lent.specs.Outcome.{Outcome}
 use Rattle.lent.specs.declared.Refusal.{Refusal}
 use Rattle.samtags.specs.Writing.{Tag}
 
@@ -23,11 +24,11 @@ front_stored {A} row vs front k fits few e =
     ap (λ (l : List A). l ++ drop k row) (e ∙ over_stored vs (take k row) low) ∙ over_part_front vs row k few
 
 module _ (ml? : Bool) (t v : List ℕ) (o : Outcome Tag) where
-  pub refused_own : (r : Refusal) → o ≡ refused r → rewrote (refused r) t v ≡ leaves_tag ml? o t v
+  pub refused_own : (r : Refusal) → o ≡ Err r → rewrote (Err r) t v ≡ leaves_tag ml? o t v
   unfolding leaves_tag leaves
   refused_own r e = rw e
 
-  pub done_own : (u : Tag) → o ≡ done u → values_with ml? u ≡ u.ml → (n m : ℕ) → length u.text ≡ n → length u.ml ≡ m
-      → (t' v' : List ℕ) → t' ≡ over u.text t → v' ≡ over u.ml v → rewrote (done (n, m)) t' v' ≡ leaves_tag ml? o t v
+  pub done_own : (u : Tag) → o ≡ Ok u → values_with ml? u ≡ u.ml → (n m : ℕ) → length u.text ≡ n → length u.ml ≡ m
+      → (t' v' : List ℕ) → t' ≡ over u.text t → v' ≡ over u.ml v → rewrote (Ok (n, m)) t' v' ≡ leaves_tag ml? o t v
   unfolding leaves_tag leaves
-  done_own u e same n m p q t' v' x y = rw (e, same) (λ j. rewrote (done (sym p j, sym q j)) (x j) (y j))
+  done_own u e same n m p q t' v' x y = rw (e, same) (λ j. rewrote (Ok (sym p j, sym q j)) (x j) (y j))

@@ -21,11 +21,7 @@ fn copy(bytes: &[u8], out: &mut [u8])
     requires { length bytes.now ≤ length out.old }
     ensures { out.new ≡ over bytes.now out.old }
 {
-    let mut i = 0;
-    while i < bytes.len() {
-        out[i] = bytes[i];
-        i += 1;
-    }
+    out[..bytes.len()].copy_from_slice(bytes);
 }
 
 // Writes the bases, restored by each strand, to the front of a row.
@@ -69,10 +65,8 @@ fn put_sums(a: &[u32], b: &[u32], counts: &mut [i16])
     requires { (length b.now ≡ length a.now) × (length a.now ≤ length counts.old) }
     ensures { counts.new ≡ over (both_counts a.now b.now) counts.old }
 {
-    let mut i = 0;
-    while i < a.len() {
+    for i in 0..a.len() {
         counts[i] = sum_of(a[i], b[i]);
-        i += 1;
     }
 }
 

@@ -1,6 +1,7 @@
 -- Laws of a lent output row: its length, one more element, a part that is lent on and comes back, and the elements past the list. The answer and the list
 -- determine the row.
 -- Assumes nothing.
+use Rattle.std.specs.Prelude.{Ok, Err}
 use mathlib.Core.Path.{◌≡◌, refl, sym, ap, ◌∙◌}
 use mathlib.Core.List.{List, [], ◌∷◌, ◌++◌, append_assoc, append-nil}
 use Prim.Native.Nat.{ℕ, suc, ◌+◌, ◌-◌, ◌≤◌, ◌<◌}
@@ -9,7 +10,6 @@ use native.Mathlib.Omega.{arith}
 use lib.ListN.{length, get_or, take, drop, set, length-append, length-drop, drop_of_length-le, take-append-drop}
 use lib.Seq.{sets, sets-eq, take_at, drop_at, drop-drop, drop-cons, take_all, set_at, append_snoc, get_or-append-add, get_or-drop}
 use Rattle.lent.specs.Filled.{over, leaves}
-use Rattle.lent.specs.Outcome.{refused, done}
 use Rattle.lent.specs.declared.Refusal.{Refusal}
 use Rattle.lent.proofs.Lists.{drop_take}
 
@@ -75,11 +75,11 @@ module _ {A : Type 0} where
       rw (drop_of_length-le out h, append-nil l)
 
 module _ {A B : Type 0} where
-  pub leaves_done : (part : A → List B) (a : A) (row : List B) → leaves part (done a) row ≡ over (part a) row
+  pub leaves_done : (part : A → List B) (a : A) (row : List B) → leaves part (Ok a) row ≡ over (part a) row
   unfolding leaves
   leaves_done part a row = refl
 
-  pub leaves_refused : (part : A → List B) (r : Refusal) (row : List B) → leaves part (refused r) row ≡ row
+  pub leaves_refused : (part : A → List B) (r : Refusal) (row : List B) → leaves part (Err r) row ≡ row
   unfolding leaves
   leaves_refused part r row = refl
 

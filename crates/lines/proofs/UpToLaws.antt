@@ -1,39 +1,55 @@
--- Walking a text from the left up to the next byte c, from any place of the text; then the lines of a text, and the fields of a line.
+-- A text up to its next byte c, from any place of the text; then the lines of a text, and the fields of a line.
 -- Assumes nothing.
-use mathlib.Core.Path.{◌≡◌, refl, ap, ◌∙◌}
-use Prim.Native.Nat.{ℕ, suc, ◌+◌, ◌≤◌, ◌<◌}
+use mathlib.Core.Path.{◌≡◌, refl, sym, ap, ◌∙◌}
+use Prim.Native.Nat.{ℕ, suc, ◌+◌, ◌-◌, ◌≤◌, ◌<◌}
 use native.Mathlib.Omega.{arith}
 use mathlib.Core.Bool.{cond}
 use mathlib.Core.List.{List, [], ◌∷◌}
 use lib.Dec.{eqb, leb}
-use lib.ListN.{length, get_or, take, drop, length-drop, drop_of_length-le}
-use lib.Seq.{drop-drop}
-use borrow.Author.Tests.{eq-eqb, ne_eqb, le-leb, lt-leb, leb-true, leb-false}
-use Rattle.lent.proofs.Lists.{drop_here}
+use lib.ListN.{length, take, drop, length-drop, drop_of_length-le}
+use lib.Seq.{drop-drop, take_all}
+use borrow.Author.Tests.{le-leb, lt-leb, leb-true, leb-false}
+use Rattle.std.proofs.Common.{None, Some, nat_lt, position}
+use Rattle.std.proofs.lemmas.List.Recursion.{is_position_or_len}
+use Rattle.std.proofs.lemmas.Option.{cond_some, none-some}
+use Rattle.std.specs.List.{position_or_len}
 use Rattle.lent.proofs.Tests.{by-test}
 use Rattle.samtags.specs.Text.{up_to, led_by}
 use Rattle.lines.specs.Lines.{lines_of, pushed, joined}
 
 -- ---- up to the next c
 
-module _ (c : ℕ) (t : List ℕ) (e : ℕ) where
-  pub up_to_end : length t ≤ e → length (up_to c (drop e t)) ≡ 0
-  up_to_end h = rw (drop_of_length-le t h)
-
-  module _ (l : e < length t) where
-    pub up_to_stop : get_or t e 0 ≡ c → length (up_to c (drop e t)) ≡ 0
-    up_to_stop h = rw (drop_here t e 0 l, eq-eqb (get_or t e 0) c h)
-
-    pub up_to_on : (get_or t e 0 ≡ c → ⊥) → length (up_to c (drop e t)) ≡ suc (length (up_to c (drop (e + 1) t)))
-    up_to_on h = rw (drop_here t e 0 l, ne_eqb (get_or t e 0) c h)
-
 up_to_take : (c : ℕ) (xs : List ℕ) → take (length (up_to c xs)) xs ≡ up_to c xs
 up_to_take c [] = refl
 up_to_take c (x ∷ xs) = by-test (eqb x c) (λ p. rw p) (λ p. rw p (ap (λ (r : List ℕ). x ∷ r) (up_to_take c xs)))
 
 -- the first n bytes, if c follows them
-pub up_to_part : (c : ℕ) (xs : List ℕ) (n : ℕ) → length (up_to c xs) ≡ n → take n xs ≡ up_to c xs
+up_to_part : (c : ℕ) (xs : List ℕ) (n : ℕ) → length (up_to c xs) ≡ n → take n xs ≡ up_to c xs
 up_to_part c xs n h = rw (← h) (up_to_take c xs)
+
+up_to_place : (c : ℕ) (xs : List ℕ) → length (up_to c xs) ≡ position_or_len (λ b. eqb b c) xs
+up_to_place c = is_position_or_len (λ xs. length (up_to c xs)) (λ b. eqb b c) refl (λ x xs. by-test (eqb x c) (λ p. rw p) (λ p. rw p (omega arith)))
+
+-- the bytes before the first c of those that are left
+module _ (c : ℕ) (t : List ℕ) (from : ℕ) where
+  rest : take (length t - from) (drop from t) ≡ drop from t
+  rest = take_all (length t - from) (drop from t) (omega (arith, length-drop from t))
+
+  pub up_to_none : position (λ b. eqb b c) (take (length t - from) (drop from t)) ≡ None → take (length t - from) (drop from t) ≡ up_to c (drop from t)
+  up_to_none e =
+      let xs = drop from t in
+      let n = position_or_len (λ b. eqb b c) xs in
+      by-test (nat_lt n (length xs))
+      (λ p. absurd (none-some n (sym e ∙ ap (position (λ b. eqb b c)) rest ∙ rw p)))
+      (λ p. rest ∙ sym (take_all n xs (omega (arith, leb-false (suc n) (length xs) p))) ∙ up_to_part c xs n (up_to_place c xs))
+
+  pub up_to_some : (n : ℕ) → position (λ b. eqb b c) (take (length t - from) (drop from t)) ≡ Some n
+      → take n (take (length t - from) (drop from t)) ≡ up_to c (drop from t)
+  up_to_some n e =
+      let xs = drop from t in
+      let p = position_or_len (λ b. eqb b c) xs in
+      let found = cond_some (nat_lt p (length xs)) p n (sym (ap (position (λ b. eqb b c)) rest) ∙ e) in
+      ap (take n) rest ∙ up_to_part c xs n (up_to_place c xs ∙ found.1)
 
 pub up_to_short : (c : ℕ) (xs : List ℕ) → length (up_to c xs) ≤ length xs
 up_to_short c [] = omega arith

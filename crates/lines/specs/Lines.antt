@@ -1,8 +1,7 @@
 -- The lines of `tagedit`: how the input splits into lines, what a line says, and how an answer and the session's contents are written as lines.
 -- Assumes nothing.
-use Rattle.std.specs.Prelude.{ℕ, Bool, cond, ◌&&◌, List, [], ◌∷◌, ◌++◌, map, take, drop, leb, eqb}
+use Rattle.std.specs.Prelude.{ℕ, Bool, cond, ◌&&◌, List, [], ◌∷◌, ◌++◌, map, take, drop, leb, eqb, Option, None, Some}
 use Prim.Native.String.{String}
-use Rattle.std.proofs.Math.Option.{Option, none, some}
 use Rattle.lent.specs.Lists.{every, is_empty}
 use Rattle.samtags.specs.Bytes.{ascii, comma}
 use Rattle.samtags.specs.Decimal.{is_number, value, digits}
@@ -43,37 +42,37 @@ unfoldable pub are_numbers : ℕ → List (List ℕ) → Bool
 unfolding is_number value
 are_numbers most fields = every (λ f. is_number f && leb (value f) most) fields
 
--- the numbers between commas, or `none` if the line is bad
+-- the numbers between commas, or `None` if the line is bad
 unfoldable pub numbers_of : ℕ → List ℕ → Option (List ℕ)
 unfolding are_numbers value
-numbers_of most body = cond (are_numbers most (joined body)) (some (map value (joined body))) none
+numbers_of most body = cond (are_numbers most (joined body)) (Some (map value (joined body))) None
 
 -- the values of an ML line: `ML` alone is an empty ML
 unfoldable pub values_of : List ℕ → Option (List ℕ)
 unfolding numbers_of
-values_of line = cond (is_empty (body_of line)) (some []) (numbers_of 255 (body_of line))
+values_of line = cond (is_empty (body_of line)) (Some []) (numbers_of 255 (body_of line))
 
 -- bases off the front and off the back: exactly two numbers
 abbrev pub cut_of : List ℕ → Option Step
-cut_of [] = none
-cut_of (front ∷ []) = none
-cut_of (front ∷ back ∷ []) = some (cut front back)
-cut_of (front ∷ back ∷ more ∷ ns) = none
+cut_of [] = None
+cut_of (front ∷ []) = None
+cut_of (front ∷ back ∷ []) = Some (cut front back)
+cut_of (front ∷ back ∷ more ∷ ns) = None
 
 module _ {A B : Type 0} where
   -- f of the value if there is one, else d
   abbrev pub given : Option A → B → (A → B) → B
-  given none d f = d
-  given (some a) d f = f a
+  given None d f = d
+  given (Some a) d f = f a
 
--- the step that a line asks for, or `none` if the line is bad; a number is a u32
+-- the step that a line asks for, or `None` if the line is bad; a number is a u32
 unfoldable pub step_of : List ℕ → Option Step
 unfolding numbers_of
 step_of line =
-    given (numbers_of 4294967295 (body_of line)) none (λ ns.
-    cond (has_mark "MK" line) (some (mask ns))
-    (cond (has_mark "DR" line) (some (drop_calls ns))
-    (cond (has_mark "CU" line) (cut_of ns) none)))
+    given (numbers_of 4294967295 (body_of line)) None (λ ns.
+    cond (has_mark "MK" line) (Some (mask ns))
+    (cond (has_mark "DR" line) (Some (drop_calls ns))
+    (cond (has_mark "CU" line) (cut_of ns) None)))
 
 -- ---- what is written
 

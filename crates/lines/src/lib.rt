@@ -2,24 +2,28 @@
 // lists; `printing` writes the lines of the output. A support crate: its functions may have a `requires`.
 #![tactic(auto)]
 
-ghost use Rattle.std.specs.Prelude.{◌≡◌, [], ◌∷◌, ◌≤◌, length, take, drop};
+ghost use Rattle.std.specs.Prelude.{◌≡◌, [], ◌∷◌, ◌≤◌, eqb, length, take, drop, position};
 ghost use Rattle.samtags.specs.Text.{up_to};
 ghost use Rattle.samtags.specs.Edits.{same_bytes_of};
 ghost use Rattle.lines.specs.Lines.{line_end, body_of};
+
+// Where the first byte c is, if there is one.
+fn first_of(text: &[u8], c: u8) -> Option<usize>
+    ensures { result ≡ position (λ b. eqb b c) text.now }
+{
+    text.iter().position(|b| *b == c)
+}
 
 // From an index on, the bytes before the next byte c, or all that are left.
 pub fn up_to(text: &[u8], from: usize, c: u8) -> &[u8]
     requires { from ≤ length text.now }
     ensures { result.now ≡ up_to c (drop from text.now) }
 {
-    let mut end = from;
-    while end < text.len() {
-        if text[end] == c {
-            return &text[from..end];
-        }
-        end += 1;
-    }
-    &text[from..end]
+    let rest = &text[from..];
+    let Some(n) = first_of(rest, c) else {
+        return rest;
+    };
+    &rest[..n]
 }
 
 // The line that begins at an index, without its LF; the last line may have none.

@@ -8,8 +8,8 @@ ghost use Rattle.samtags.specs.Edits.{edited, masked_to};
 ghost use Rattle.samtags.specs.Session.{held_in, mask, masked, step_in_memory};
 ghost use Rattle.stepping.specs.Steps.{Ordered, came, leaves_memory, memory, step_says, stored_with};
 
-use lent::Tagged;
-use stepping::{Lengths, Stepped};
+use lent::Refusal;
+use stepping::Lengths;
 
 // SEQ becomes `after`, which is as long as SEQ.
 pub fn mask_to(
@@ -19,7 +19,7 @@ pub fn mask_to(
     has_ml: bool,
     lengths: Lengths,
     after: &[u8],
-) -> Stepped
+) -> Result<Lengths, Refusal>
     requires { Ordered has_ml (memory seq.old mm.old ml.old lengths) × (length after.now ≡ lengths.seq) }
     ensures { let m = memory seq.old mm.old ml.old lengths in
         came (step_says result) seq.new mm.new ml.new
@@ -28,7 +28,7 @@ pub fn mask_to(
 {
     let n = lengths.seq;
     let no_marks: [u8; 0] = [];
-    let edited = stepping::tags::edit_front(
+    let (end, kept) = stepping::tags::edit_front(
         &seq[0..n],
         after,
         &no_marks,
@@ -38,12 +38,9 @@ pub fn mask_to(
         lengths.ml,
         mm,
         ml,
-    );
-    let Tagged::Done(end, kept) = edited else {
-        return Stepped::Refused(edited.refusal());
-    };
+    )?;
     entries::put_all(seq, 0, after);
-    Stepped::Done(stepping::lengths_now(n, end, kept, has_ml, lengths))
+    Ok(stepping::lengths_now(n, end, kept, has_ml, lengths))
 }
 
 // Copies SEQ to the front of a row, with N at the places. Places past SEQ's end mask nothing of it.
@@ -64,7 +61,7 @@ pub fn mask_with(
     lengths: Lengths,
     places: &[u32],
     after: &mut [u8],
-) -> Stepped
+) -> Result<Lengths, Refusal>
     requires { Ordered has_ml (memory seq.old mm.old ml.old lengths) × (lengths.seq ≤ length after.old) }
     ensures { let m = memory seq.old mm.old ml.old lengths in
         came (step_says result) seq.new mm.new ml.new

@@ -1,5 +1,6 @@
 -- Laws of a walk that needs no places: its counts after one more entry and after one more group.
 -- Assumes nothing.
+use Rattle.std.specs.Prelude.{Ok, Err, Option, Some, None}
 use mathlib.Core.Path.{◌≡◌, refl, ◌∙◌, ap, sym}
 use Prim.Native.Nat.{◌+◌, ◌-◌, ◌<◌, ◌≤◌, min, suc, ℕ}
 use native.Mathlib.Nat.{add-zero}
@@ -12,7 +13,7 @@ use borrow.Author.Tests.{le-leb, lt-leb}
 use Rattle.lent.proofs.Lists.{drop_here}
 use Rattle.lent.proofs.Outcome.{done_inj, need_rest, need_test}
 use Rattle.lent.specs.Lists.{every, last_or}
-use Rattle.lent.specs.Outcome.{Outcome, and_then, done, need, on_done, refuse, refused}
+use Rattle.lent.specs.Outcome.{Outcome, and_then, need, on_done, refusal, refuse}
 use Rattle.lent.specs.declared.Refusal.{Refusal}
 use Rattle.samtags.proofs.Places.{places_length}
 use Rattle.samtags.proofs.Read.{calls_bare}
@@ -23,31 +24,29 @@ use Rattle.samtags.specs.Reading.{denied_to, nowhere, read, read_entry, read_gro
 use Rattle.samtags.specs.Spots.{Group, Spot, bare, call, calls_in, holds, tracked}
 use Rattle.samtags.specs.Text.{base_of, closed_by, ends_in_question, led_by, up_to}
 use Rattle.places.proofs.TextLaws.{calls_none, entry_refused, group_on, groups_at, turn_on, turn_refused}
-use Rattle.places.proofs.WalkLaws.{entry_six}
+use Rattle.places.proofs.WalkLaws.{entry_not_decimal}
 use Rattle.fields.specs.Fields.{field_of}
 use Rattle.measuring.specs.declared.Count.{Count}
-use Rattle.measuring.specs.declared.Counted.{Counted}
-use Rattle.measuring.specs.declared.Counted.TheVariants.{To, Refused, Unsure}
 use Rattle.measuring.specs.Counting.{calls_of, group_counted, groups_counted, spots_counted}
 
--- an answer that is not `To`, as the code knows it
-abbrev pub NotTo : Counted → Type 0
-NotTo r = (d : Count) → r ≡ To d → ⊥
+-- an answer that is no count, as the code knows it
+abbrev pub NotTo : Outcome (Option Count) → Type 0
+NotTo r = (d : Count) → r ≡ Ok (Some d) → ⊥
 
-pub unless_to : (P : Counted → Type 0) (r : Counted) → NotTo r
-    → ((q : Refusal) → r ≡ Refused q → P (Refused q)) → (r ≡ Unsure → P Unsure) → P r
-unless_to P (To d) k f g = absurd (k d refl)
-unless_to P (Refused q) k f g = f q refl
-unless_to P Unsure k f g = g refl
+pub unless_to : (P : Outcome (Option Count) → Type 0) (r : Outcome (Option Count)) → NotTo r
+    → ((q : Refusal) → r ≡ Err q → P (Err q)) → (r ≡ Ok None → P (Ok None)) → P r
+unless_to P (Ok (Some d)) k f g = absurd (k d refl)
+unless_to P (Err q) k f g = f q refl
+unless_to P (Ok None) k f g = g refl
 
 -- ---- one entry: a field whose skip, as far as it matters, is n, over places of which only their number is known
 
-module _ (k : ℕ) (f places : List ℕ) (n m : ℕ) (e : done n ≡ need (is_number f) 6 (done (min 16001 (value f)))) where
+module _ (k : ℕ) (f places : List ℕ) (n m : ℕ) (e : Ok n ≡ need (is_number f) 6 (Ok (min 16001 (value f)))) where
   number : is_number f ≡ true
-  number = need_test (is_number f) 6 (done (min 16001 (value f))) n (sym e)
+  number = need_test (is_number f) 6 (Ok (min 16001 (value f))) n (sym e)
 
   bounded : min 16001 (value f) ≡ n
-  bounded = done_inj (need_rest (is_number f) 6 (done (min 16001 (value f))) n (sym e))
+  bounded = done_inj (need_rest (is_number f) 6 (Ok (min 16001 (value f))) n (sym e))
 
   entry_past : length places ≤ n → read_entry k nowhere f places m ≡ refuse 7
   unfolding read_entry
@@ -61,18 +60,18 @@ module _ (k : ℕ) (f places : List ℕ) (n m : ℕ) (e : done n ≡ need (is_nu
     unfolding read_entry
     entry_short l = rw (number, listed, lt-leb k m l)
 
-    entry_there : k ≤ m → read_entry k nowhere f places m ≡ done (get_or places n 0, drop (n + 1) places)
+    entry_there : k ≤ m → read_entry k nowhere f places m ≡ Ok (get_or places n 0, drop (n + 1) places)
     unfolding read_entry
     entry_there l = rw (number, listed, le-leb k m l)
 
 -- ---- one turn over entries: the entry that the comma at `at` leads, and those after it
 
 count_one : (n : ℕ) (ps : List ℕ) (p : ℕ) (vs : List ℕ) (x : Outcome (List Spot × List ℕ))
-    → on_done (spots_counted n) (and_then x (λ r. done (map bare ps ++ call p vs ∷ r.0, r.1))) ≡ on_done (spots_counted (n + 1)) x
-count_one n ps p vs (refused r) = refl
-count_one n ps p vs (done r) =
+    → on_done (spots_counted n) (and_then x (λ r. Ok (map bare ps ++ call p vs ∷ r.0, r.1))) ≡ on_done (spots_counted (n + 1)) x
+count_one n ps p vs (Err r) = refl
+count_one n ps p vs (Ok r) =
     let more : n + suc (length (calls_in r.0)) ≡ n + 1 + length (calls_in r.0) = omega arith in
-    rw (calls_bare ps (call p vs ∷ r.0)) (λ j. done (more j, r.1))
+    rw (calls_bare ps (call p vs ∷ r.0)) (λ j. Ok (more j, r.1))
 
 -- the outcome of reading from a separator and a value on, over so many places, after n calls
 abbrev pub counted_from : ℕ → List ℕ → List ℕ → ℕ → ℕ → ℕ → List ℕ → Outcome (ℕ × List ℕ)
@@ -80,12 +79,17 @@ counted_from k t ml n used at places = on_done (spots_counted n) (read_spots k n
 
 module _ (k : ℕ) (t : List ℕ) (at : ℕ) (l : at < length t) (comma : get_or t at 0 ≡ 44) (f : List ℕ) (q : f ≡ field_of (drop (at + 1) t))
     (ml : List ℕ) (used calls : ℕ) (places : List ℕ) where
-  pub turn_six : (n : ℕ) (r : Refusal) → refused r ≡ need (is_number f) 6 (done n) → counted_from k t ml calls used at places ≡ refused r
+  -- a field that is no number is refused with 6
+  six : (t : Bool) (n : ℕ) (r : Refusal) → Err r ≡ need t 6 (Ok n) → ◌≡◌ {A = Outcome ℕ} (refuse 6) (Err r)
+  six true n r e = let z : ◌≡◌ {A = ℕ} 0 1 = cc in absurd (omega arith)
+  six false n r e = let s : r ≡ refusal 6 = cc in rw s
+
+  pub turn_six : (n : ℕ) (r : Refusal) → Err r ≡ need (is_number f) 6 (Ok n) → counted_from k t ml calls used at places ≡ Err r
   turn_six n r e =
       ap (on_done (spots_counted calls)) (turn_refused k nowhere t at l comma f q places ml used r
-      (entry_refused k nowhere f places (length ml - used) r (entry_six f places n r e)))
+      (entry_refused k nowhere f places (length ml - used) r (sym (six (is_number f) n r e) ∙ entry_not_decimal f places n r e)))
 
-  module _ (skip : ℕ) (e : done skip ≡ need (is_number f) 6 (done (min 16001 (value f)))) where
+  module _ (skip : ℕ) (e : Ok skip ≡ need (is_number f) 6 (Ok (min 16001 (value f)))) where
     pub turn_seven : length places ≤ skip → counted_from k t ml calls used at places ≡ refuse 7
     turn_seven h =
         ap (on_done (spots_counted calls)) (turn_refused k nowhere t at l comma f q places ml used _
@@ -111,7 +115,7 @@ module _ (k : ℕ) (t : List ℕ) (at : ℕ) (l : at < length t) (comma : get_or
       )
 
 -- at the group's end
-pub count_last : (n : ℕ) (places ml : List ℕ) → on_done (spots_counted n) (done (map bare places, ml)) ≡ done (n, ml)
+pub count_last : (n : ℕ) (places ml : List ℕ) → on_done (spots_counted n) (Ok (map bare places, ml)) ≡ Ok (n, ml)
 count_last n places ml = rw (calls_none places, add-zero n)
 
 pub tracked_short : (b : ℕ) (seq : List ℕ) → length (tracked b seq) ≤ length seq
@@ -137,22 +141,22 @@ module _ (ml? : Bool) (named : ℕ → Bool) (seq t : List ℕ) (at : ℕ) (h : 
   abbrev spots_read : Outcome (List Spot × List ℕ)
   spots_read = read_spots k nowhere (led_by 44 (up_to 59 (drop (at + length h) t))) (tracked b seq) ml
 
-  group_is : read_group ml? named seq (up_to 59 (drop at t)) ml ≡ and_then spots_read (λ r. done (record { header = h; spots = r.0 }, r.1))
+  group_is : read_group ml? named seq (up_to 59 (drop at t)) ml ≡ and_then spots_read (λ r. Ok (record { header = h; spots = r.0 }, r.1))
   group_is =
       group_on ml? named seq t at h q ml long
       ∙ (λ j. and_then (read_spots (sym kh j) (quiet j) (led_by 44 (up_to 59 (drop (at + length h) t))) (tracked (sym bh j) seq) ml) (λ r.
-      done (record { header = h; spots = r.0 }, r.1)))
+      Ok (record { header = h; spots = r.0 }, r.1)))
 
-  pub group_refused : (r : Refusal) → spots_read ≡ refused r → read_group ml? named seq (up_to 59 (drop at t)) ml ≡ refused r
+  pub group_refused : (r : Refusal) → spots_read ≡ Err r → read_group ml? named seq (up_to 59 (drop at t)) ml ≡ Err r
   group_refused r e = group_is ∙ rw e
 
   pub group_counted_lem : (n : ℕ) → on_done (group_counted n) (read_group ml? named seq (up_to 59 (drop at t)) ml) ≡ on_done (spots_counted n) spots_read
   group_counted_lem n = ap (on_done (group_counted n)) group_is ∙ go spots_read
     where
       go : (x : Outcome (List Spot × List ℕ))
-          → on_done (group_counted n) (and_then x (λ r. done (record { header = h; spots = r.0 }, r.1))) ≡ on_done (spots_counted n) x
-      go (refused r) = refl
-      go (done r) = refl
+          → on_done (group_counted n) (and_then x (λ r. Ok (record { header = h; spots = r.0 }, r.1))) ≡ on_done (spots_counted n) x
+      go (Err r) = refl
+      go (Ok r) = refl
 
 -- ---- one turn over groups: the group at `at`, and those after it
 
@@ -161,28 +165,28 @@ abbrev counted_after : ℕ → (List ℕ → Outcome (List Group)) → ℕ × Li
 counted_after g rest x = on_done (groups_counted (g + 1) x.0) (rest x.1)
 
 count_group_more : (g n : ℕ) (x : Outcome (Group × List ℕ)) (rest : List ℕ → Outcome (List Group))
-    → on_done (groups_counted g n) (and_then x (λ r. and_then (rest r.1) (λ gs. done (r.0 ∷ gs)))) ≡ and_then (on_done (group_counted n) x) (counted_after g rest)
-count_group_more g n (refused r) rest = refl
-count_group_more g n (done r) rest = go (rest r.1)
+    → on_done (groups_counted g n) (and_then x (λ r. and_then (rest r.1) (λ gs. Ok (r.0 ∷ gs)))) ≡ and_then (on_done (group_counted n) x) (counted_after g rest)
+count_group_more g n (Err r) rest = refl
+count_group_more g n (Ok r) rest = go (rest r.1)
   where
     go : (y : Outcome (List Group))
-        → on_done (groups_counted g n) (and_then y (λ gs. done (r.0 ∷ gs))) ≡ on_done (groups_counted (g + 1) (n + length (calls_in r.0.spots))) y
-    go (refused q) = refl
-    go (done gs) =
+        → on_done (groups_counted g n) (and_then y (λ gs. Ok (r.0 ∷ gs))) ≡ on_done (groups_counted (g + 1) (n + length (calls_in r.0.spots))) y
+    go (Err q) = refl
+    go (Ok gs) =
         let groups : g + suc (length gs) ≡ g + 1 + length gs = omega arith in
         let calls : n + (length (calls_in r.0.spots) + calls_of gs) ≡ n + length (calls_in r.0.spots) + calls_of gs = omega arith in
-        λ j. done (groups j, calls j)
+        λ j. Ok (groups j, calls j)
 
-pub count_none : (g n : ℕ) → on_done (groups_counted g n) (done []) ≡ done (g, n)
+pub count_none : (g n : ℕ) → on_done (groups_counted g n) (Ok []) ≡ Ok (g, n)
 count_none g n = rw (add-zero g, add-zero n)
 
 module _ (ml? : Bool) (named : ℕ → Bool) (seq t : List ℕ) (at : ℕ) (l : at < length t) (last : last_or 0 t ≡ 59) (ml : List ℕ) where
-  pub groups_refused : (r : Refusal) → read_group ml? named seq (up_to 59 (drop at t)) ml ≡ refused r
-      → read_groups ml? named seq (closed_by 59 (drop at t)) ml ≡ refused r
+  pub groups_refused : (r : Refusal) → read_group ml? named seq (up_to 59 (drop at t)) ml ≡ Err r
+      → read_groups ml? named seq (closed_by 59 (drop at t)) ml ≡ Err r
   groups_refused r e = groups_at ml? named seq t at l last ml ∙ rw e
 
   pub groups_turn : (g n next group calls : ℕ) (left : List ℕ) → next ≡ at + length (up_to 59 (drop at t)) + 1 → group ≡ g + 1
-      → on_done (group_counted n) (read_group ml? named seq (up_to 59 (drop at t)) ml) ≡ done (calls, left)
+      → on_done (group_counted n) (read_group ml? named seq (up_to 59 (drop at t)) ml) ≡ Ok (calls, left)
       → on_done (groups_counted g n) (read_groups ml? named seq (closed_by 59 (drop at t)) ml)
       ≡ on_done (groups_counted group calls) (read_groups ml? named seq (closed_by 59 (drop next t)) left)
   groups_turn g n next group calls left p q e =

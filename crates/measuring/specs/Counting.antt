@@ -1,18 +1,10 @@
 -- The answer of a walk that needs no places, step by step. These are contracts of support functions; no promise rests on them.
 -- Assumes nothing.
-use Rattle.std.specs.Prelude.{ℕ, ◌+◌, ◌≤◌, ◌≡◌, Bool, true, List, [], ◌∷◌, length, drop}
-use Rattle.lent.specs.Outcome.{Outcome, refused, done, on_done, refusal}
-use Rattle.lent.specs.declared.Refusal.{Refusal}
+use Rattle.std.specs.Prelude.{ℕ, ◌+◌, ◌≤◌, ◌≡◌, Bool, true, List, [], ◌∷◌, length, drop, Ok, Err, Some, None, Option}
+use Rattle.lent.specs.Outcome.{Outcome, on_done}
 use Rattle.samtags.specs.Text.{up_to}
 use Rattle.samtags.specs.Spots.{Spot, Group, calls_in}
 use Rattle.measuring.specs.declared.Count.{Count}
-use Rattle.measuring.specs.declared.Counted.{Counted}
-use Rattle.measuring.specs.declared.Counted.TheVariants.{To, Refused, Unsure}
-
-abbrev pub counted_refusal : Counted → Refusal
-counted_refusal (To c) = refusal 0
-counted_refusal (Refused r) = r
-counted_refusal Unsure = refusal 0
 
 -- ---- what is counted
 
@@ -34,24 +26,23 @@ groups_counted g n gs = (g + length gs, n + calls_of gs)
 
 -- ---- the answers
 
--- the answer agrees with o, the outcome of the entries from the separator at c on; the places are not needed, so it is never `Unsure`
-abbrev pub EntriesCounted : List ℕ → List ℕ → Count → Outcome (List Spot × List ℕ) → Counted → Type 0
-EntriesCounted text ml c o (Refused r) = o ≡ refused r
-EntriesCounted text ml c o Unsure = ⊥
-EntriesCounted text ml c o (To d) =
+-- the answer agrees with o, the outcome of the entries from the separator at c on
+abbrev pub EntriesCounted : List ℕ → List ℕ → Count → Outcome (List Spot × List ℕ) → Outcome Count → Type 0
+EntriesCounted text ml c o (Err r) = o ≡ Err r
+EntriesCounted text ml c o (Ok d) =
     (d.at ≡ c.at + length (up_to 59 (drop c.at text))) × (d.used ≤ length ml) × (d.group ≡ c.group) × (d.calls ≤ d.at)
-    × (on_done (spots_counted c.calls) o ≡ done (d.calls, drop d.used ml))
+    × (on_done (spots_counted c.calls) o ≡ Ok (d.calls, drop d.used ml))
 
--- the answer agrees with o, the outcome of the group at c; it is `Unsure` only if calls are marked
-abbrev pub GroupCounted : Bool → List ℕ → List ℕ → Count → Outcome (Group × List ℕ) → Counted → Type 0
-GroupCounted marked text ml c o (Refused r) = o ≡ refused r
-GroupCounted marked text ml c o Unsure = marked ≡ true
-GroupCounted marked text ml c o (To d) =
+-- the answer agrees with o, the outcome of the group at c; it is none only if calls are marked
+abbrev pub GroupCounted : Bool → List ℕ → List ℕ → Count → Outcome (Group × List ℕ) → Outcome (Option Count) → Type 0
+GroupCounted marked text ml c o (Err r) = o ≡ Err r
+GroupCounted marked text ml c o (Ok None) = marked ≡ true
+GroupCounted marked text ml c o (Ok (Some d)) =
     (d.at ≡ c.at + length (up_to 59 (drop c.at text)) + 1) × (d.used ≤ length ml) × (d.group ≡ c.group + 1) × (d.calls ≤ d.at)
-    × (on_done (group_counted c.calls) o ≡ done (d.calls, drop d.used ml))
+    × (on_done (group_counted c.calls) o ≡ Ok (d.calls, drop d.used ml))
 
 -- the answer agrees with o, the outcome of all groups
-abbrev pub TagCounted : Bool → Outcome (List Group) → Counted → Type 0
-TagCounted marked o (Refused r) = o ≡ refused r
-TagCounted marked o Unsure = marked ≡ true
-TagCounted marked o (To d) = on_done (groups_counted 0 0) o ≡ done (d.group, d.calls)
+abbrev pub TagCounted : Bool → Outcome (List Group) → Outcome (Option Count) → Type 0
+TagCounted marked o (Err r) = o ≡ Err r
+TagCounted marked o (Ok None) = marked ≡ true
+TagCounted marked o (Ok (Some d)) = on_done (groups_counted 0 0) o ≡ Ok (d.group, d.calls)

@@ -8,10 +8,9 @@ ghost use Rattle.samtags.specs.Bytes.{comma, semicolon};
 ghost use Rattle.samtags.specs.Text.{up_to, led_by, closed_by};
 ghost use Rattle.samtags.specs.Reading.{nowhere, read, read_spots, read_group, read_groups};
 ghost use Rattle.fields.specs.Fields.{field_of};
-ghost use Rattle.measuring.specs.Counting.{counted_refusal, EntriesCounted, GroupCounted, TagCounted};
+ghost use Rattle.measuring.specs.Counting.{EntriesCounted, GroupCounted, TagCounted};
 
 use lent::Refusal;
-use numbers::Skip;
 
 // The state of a walk: the next byte of the text, the next value of ML, and how many groups and calls were passed.
 #[derive(Clone, Copy)]
@@ -22,30 +21,14 @@ pub struct Count {
     pub calls: usize,
 }
 
-// How far the walk came, or why the tag is refused. `Unsure` if calls are to be dropped and a group's header does not allow it. Then only the places
-// tell whether the tag is refused with 10 before an error further right.
-#[derive(Clone, Copy)]
-pub enum Counted {
-    To(Count),
-    Refused(Refusal),
-    Unsure,
-}
-
-impl Counted {
-    // The refusal, unchanged. The other cases give the number 0.
-    pub fn refusal(self) -> Refusal
-        ensures { result ≡ counted_refusal self }
-    {
-        match self {
-            Counted::To(_) => Refusal(0),
-            Counted::Refused(refusal) => refusal,
-            Counted::Unsure => Refusal(0),
-        }
-    }
-}
-
 // Counts a group's entries, from the separator at the cursor on, up to the ';' that closes the group. SEQ has `all` bases of the group's kind.
-fn count_entries(text: &[u8], ml: &[u8], values: usize, all: usize, start: Count) -> Counted
+fn count_entries(
+    text: &[u8],
+    ml: &[u8],
+    values: usize,
+    all: usize,
+    start: Count,
+) -> Result<Count, Refusal>
     requires text_len_bound { (length text.now ≤ 65536) × (length ml.now ≤ 65536) × (all ≤ 16000) }
     requires text_in_bounds { start.at + length (up_to semicolon (drop start.at text.now)) < length text.now }
     requires text_len { length (field_of (drop start.at text.now)) ≡ 0 }
@@ -59,32 +42,31 @@ fn count_entries(text: &[u8], ml: &[u8], values: usize, all: usize, start: Count
     let mut used = start.used;
     let mut calls = start.calls;
     let mut left = all;
+    // A cursor, not a count: an entry's field is as long as it is.
     while text[at] == b',' {
         let field = fields::next_field(text, at + 1);
-        let read = numbers::read_skip(field, 16001);
-        let Skip::Of(skip) = read else {
-            return Counted::Refused(read.refusal());
-        };
+        let skip = numbers::read_skip(field, 16001)?;
         if left <= skip {
-            return Counted::Refused(Refusal(7));
+            return Err(Refusal::SkipTooFar);
         }
         if ml.len() - used < values {
-            return Counted::Refused(Refusal(8));
+            return Err(Refusal::MlTooShort);
         }
         left = left - skip - 1;
         used = used + values;
         calls = calls + 1;
         at = at + 1 + field.len();
     }
-    Counted::To(Count {
-        at: at,
-        used: used,
+    Ok(Count {
+        at,
+        used,
         group: start.group,
-        calls: calls,
+        calls,
     })
 }
 
-// Counts the group that begins at the cursor, up to and including its ';'. `marked`: some calls are to be dropped.
+// Counts the group that begins at the cursor, up to and including its ';'. `marked`: some calls are to be dropped. Ok with None if the group's header
+// does not allow that. Then only the places tell whether the tag is refused with 10 before an error further right.
 fn count_group(
     seq: &[u8],
     text: &[u8],
@@ -92,7 +74,7 @@ fn count_group(
     has_ml: bool,
     marked: bool,
     start: Count,
-) -> Counted
+) -> Result<Option<Count>, Refusal>
     requires seq_len_bound { (length seq.now ≤ 16000) × (length text.now ≤ 65536) × (length ml.now ≤ 65536) }
     requires text_in_bounds { start.at + length (up_to semicolon (drop start.at text.now)) < length text.now }
     requires used_in_bounds { (start.used ≤ length ml.now) × (start.group ≤ start.at) × (start.calls ≤ start.at) }
@@ -104,13 +86,13 @@ fn count_group(
     let at = start.at;
     let header = fields::next_field(text, at);
     if header.len() < 2 {
-        return Counted::Refused(Refusal(5));
+        return Err(Refusal::ShortHeader);
     }
     let values = headers::values_if(has_ml, header);
     let base = headers::base_of(header);
     let may_drop = headers::ends_in_question(header);
     if marked && !may_drop {
-        return Counted::Unsure;
+        return Ok(None);
     }
     let all = strides::how_many(seq, base);
     let entries = Count {
@@ -119,20 +101,23 @@ fn count_group(
         group: start.group + 1,
         calls: start.calls,
     };
-    let counted = count_entries(text, ml, values, all, entries);
-    let Counted::To(end) = counted else {
-        return counted;
-    };
-    Counted::To(Count {
+    let end = count_entries(text, ml, values, all, entries)?;
+    Ok(Some(Count {
         at: end.at + 1,
         used: end.used,
         group: end.group,
         calls: end.calls,
-    })
+    }))
 }
 
 // Counts all groups of a text that ends in ';'. After the last one no value of ML may be left over.
-fn count_groups(seq: &[u8], text: &[u8], ml: &[u8], has_ml: bool, marked: bool) -> Counted
+fn count_groups(
+    seq: &[u8],
+    text: &[u8],
+    ml: &[u8],
+    has_ml: bool,
+    marked: bool,
+) -> Result<Option<Count>, Refusal>
     requires { (length seq.now ≤ 16000) × (length text.now ≤ 65536) × (length ml.now ≤ 65536) × (last_or 0 text.now ≡ semicolon) }
     ensures { (named : ℕ → Bool) → (marked ≡ false → named ≡ nowhere)
         → TagCounted marked (read_groups has_ml named seq.now (closed_by semicolon text.now) ml.now) result }
@@ -143,32 +128,39 @@ fn count_groups(seq: &[u8], text: &[u8], ml: &[u8], has_ml: bool, marked: bool) 
         group: 0,
         calls: 0,
     };
+    // A cursor, not a count: a group is as long as it is.
     while c.at < text.len() {
-        let counted = count_group(seq, text, ml, has_ml, marked, c);
-        let Counted::To(next) = counted else {
-            return counted;
+        let Some(next) = count_group(seq, text, ml, has_ml, marked, c)? else {
+            return Ok(None);
         };
         c = next;
     }
     if c.used < ml.len() {
-        return Counted::Refused(Refusal(9));
+        return Err(Refusal::MlLeftOver);
     }
-    Counted::To(c)
+    Ok(Some(c))
 }
 
-// Checks a whole tag for 3 to 9, and counts its groups and calls. Without ML the ML row is empty.
-pub fn count_tag(seq: &[u8], text: &[u8], ml: &[u8], has_ml: bool, marked: bool) -> Counted
+// Checks a whole tag for 3 to 9, and counts its groups and calls. Without ML the ML row is empty. None if calls are `marked` and a group may lose none:
+// then only the places tell.
+pub fn count_tag(
+    seq: &[u8],
+    text: &[u8],
+    ml: &[u8],
+    has_ml: bool,
+    marked: bool,
+) -> Result<Option<Count>, Refusal>
     requires { (length seq.now ≤ 16000) × (length text.now ≤ 65536) × (length ml.now ≤ 65536) × (cond has_ml ml.now [] ≡ ml.now) }
     ensures { (named : ℕ → Bool) → (marked ≡ false → named ≡ nowhere)
         → TagCounted marked (read has_ml named seq.now text.now ml.now) result }
 {
     let ascii = fields::all_ascii(text);
     if !ascii {
-        return Counted::Refused(Refusal(3));
+        return Err(Refusal::MmNotAscii);
     }
     let closed = fields::ends_in_semicolon(text);
     if !closed {
-        return Counted::Refused(Refusal(4));
+        return Err(Refusal::MmNotClosed);
     }
     count_groups(seq, text, ml, has_ml, marked)
 }

@@ -2,30 +2,23 @@
 #![tactic(auto)]
 
 ghost use Rattle.std.specs.Prelude.{◌≡◌};
-ghost use Rattle.modes.specs.Modes.{mode_of, mode_says};
+ghost use Rattle.modes.specs.Modes.{mode_of};
 
 use lent::Refusal;
 use pattern::MethylationMode;
 
-// What a number says: a chemistry, or a refusal if it names none.
-#[derive(Clone, Copy)]
-pub enum Mode {
-    Known(MethylationMode),
-    Refused(Refusal),
-}
-
 // The chemistry with this number; 13 if there is none.
-pub fn mode_of(number: u8) -> Mode
-    ensures { mode_says result ≡ mode_of number }
+pub fn mode_of(number: u8) -> Result<MethylationMode, Refusal>
+    ensures { result ≡ mode_of number }
 {
     if number == 0 {
-        return Mode::Known(MethylationMode::Disabled);
+        return Ok(MethylationMode::Disabled);
     }
     if number == 1 {
-        return Mode::Known(MethylationMode::EmSeq);
+        return Ok(MethylationMode::EmSeq);
     }
     if number == 2 {
-        return Mode::Known(MethylationMode::Taps);
+        return Ok(MethylationMode::Taps);
     }
-    Mode::Refused(Refusal(13))
+    Err(Refusal::BadNumber)
 }

@@ -1,32 +1,12 @@
 // Decimal numbers in a text: reads a skip, writes a number. A support crate: its functions may have a `requires`.
 #![tactic(auto)]
 
-ghost use Rattle.std.specs.Prelude.{◌≡◌, ◌+◌, ◌-◌, ◌*◌, ◌≤◌, min, length, set};
+ghost use Rattle.std.specs.Prelude.{◌≡◌, ◌+◌, ◌-◌, ◌*◌, ◌≤◌, min, length, set, Ok};
 ghost use Rattle.std.proofs.lemmas.List.Edits.{sets};
-ghost use Rattle.lent.specs.Outcome.{done, need};
+ghost use Rattle.lent.specs.Outcome.{need};
 ghost use Rattle.samtags.specs.Decimal.{is_number, value, digits};
-ghost use Rattle.numbers.specs.Answers.{skip_says, skip_refusal};
 
 use lent::Refusal;
-
-// What a field says: how many bases to pass over, or why it is no skip.
-#[derive(Clone, Copy)]
-pub enum Skip {
-    Of(usize),
-    Refused(Refusal),
-}
-
-impl Skip {
-    // The refusal, unchanged. `Of` gives the number 0.
-    pub fn refusal(self) -> Refusal
-        ensures { result ≡ skip_refusal self }
-    {
-        match self {
-            Skip::Of(_) => Refusal(0),
-            Skip::Refused(refusal) => refusal,
-        }
-    }
-}
 
 // One more digit, but never above `most`.
 fn with_digit(n: usize, digit: u8, most: usize) -> usize
@@ -41,35 +21,32 @@ fn with_digit(n: usize, digit: u8, most: usize) -> usize
 }
 
 // Reads a plain decimal of any length. A number above `most` is read as `most`, so that no number is too large to read.
-pub fn read_skip(field: &[u8], most: usize) -> Skip
+pub fn read_skip(field: &[u8], most: usize) -> Result<usize, Refusal>
     requires { most ≤ 4294967296 }
-    ensures { skip_says result ≡ need (is_number field.now) 6 (done (min most (value field.now))) }
+    ensures { result ≡ need (is_number field.now) 6 (Ok (min most (value field.now))) }
 {
-    if field.len() == 0 {
-        return Skip::Refused(Refusal(6));
+    if field.is_empty() {
+        return Err(Refusal::BadSkip);
     }
     let mut n = 0;
-    let mut i = 0;
-    while i < field.len() {
-        let digit = field[i];
+    for &digit in field {
         if digit < b'0' {
-            return Skip::Refused(Refusal(6));
+            return Err(Refusal::BadSkip);
         }
         if b'9' < digit {
-            return Skip::Refused(Refusal(6));
+            return Err(Refusal::BadSkip);
         }
         n = with_digit(n, digit, most);
-        i += 1;
     }
-    Skip::Of(n)
+    Ok(n)
 }
 
-// Writes a byte at an index if the row is long enough. So the same code writes into a row and, with an empty row, measures.
-pub fn put(out: &mut [u8], at: usize, b: u8)
-    ensures { out.new ≡ set out.old at b }
+// Writes an entry at an index if the row is long enough. So the same code writes into a row and, with an empty row, measures.
+pub fn put<T: Copy>(out: &mut [T], at: usize, entry: T)
+    ensures { out.new ≡ set out.old at entry }
 {
     if at < out.len() {
-        out[at] = b;
+        out[at] = entry;
     }
 }
 

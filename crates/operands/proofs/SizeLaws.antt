@@ -1,11 +1,11 @@
 -- Lengths: the lines of an input, a line that asks for a step, decimals, and the values that an ML line lists.
 -- Assumes nothing.
+use Rattle.std.specs.Prelude.{Option, None, Some}
 use mathlib.Core.Path.{◌≡◌, refl, ap}
 use Prim.Native.Nat.{ℕ, suc, ◌+◌, ◌-◌, ◌*◌, ◌≤◌, ◌<◌}
 use native.Mathlib.Omega.{arith}
 use mathlib.Core.Bool.{Bool, true, false, cond}
 use mathlib.Core.List.{List, [], ◌∷◌, map}
-use mathlib.Core.Option.{Option, none, some}
 use lib.Dec.{eqb, leb}
 use lib.ListN.{length, length-append, length-drop}
 use Rattle.lent.proofs.Tests.{and_true_l, and_true_r, by-test}
@@ -46,11 +46,11 @@ marked_length l h = omega (arith, length-drop 2 l)
 
 -- ---- numbers
 
-numbers_some : (most : ℕ) (body ns : List ℕ) → numbers_of most body ≡ some ns → (are_numbers most (joined body) ≡ true) × (map value (joined body) ≡ ns)
+numbers_some : (most : ℕ) (body ns : List ℕ) → numbers_of most body ≡ Some ns → (are_numbers most (joined body) ≡ true) × (map value (joined body) ≡ ns)
 unfolding numbers_of
 numbers_some most body ns e = go (are_numbers most (joined body)) e
   where
-    go : (t : Bool) → cond t (some (map value (joined body))) none ≡ some ns → (t ≡ true) × (map value (joined body) ≡ ns)
+    go : (t : Bool) → cond t (Some (map value (joined body))) None ≡ Some ns → (t ≡ true) × (map value (joined body) ≡ ns)
     go true e = (refl, cc)
     go false e = let z : ◌≡◌ {A = ℕ} 0 1 = cc in absurd (omega arith)
 
@@ -62,16 +62,16 @@ numbers_long most body e =
     omega (arith, number_some (up_to 44 body) num, piece_length body)
 
 -- a line that asks for a step has at least three bytes
-pub step_long : (l : List ℕ) (t : Step) → step_of l ≡ some t → 3 ≤ length l
+pub step_long : (l : List ℕ) (t : Step) → step_of l ≡ Some t → 3 ≤ length l
 unfolding step_of
 step_long l t e = go (numbers_of 4294967295 (body_of l)) refl e
   where
     go : (o : Option (List ℕ)) → numbers_of 4294967295 (body_of l) ≡ o
-        → given o none (λ ns. cond (has_mark "MK" l) (some (mask ns))
-        (cond (has_mark "DR" l) (some (drop_calls ns)) (cond (has_mark "CU" l) (cut_of ns) none))) ≡ some t
+        → given o None (λ ns. cond (has_mark "MK" l) (Some (mask ns))
+        (cond (has_mark "DR" l) (Some (drop_calls ns)) (cond (has_mark "CU" l) (cut_of ns) None))) ≡ Some t
         → 3 ≤ length l
-    go none p e = let z : ◌≡◌ {A = ℕ} 0 1 = cc in absurd (omega arith)
-    go (some ns) p e =
+    go None p e = let z : ◌≡◌ {A = ℕ} 0 1 = cc in absurd (omega arith)
+    go (Some ns) p e =
         let long = numbers_long 4294967295 (body_of l) (numbers_some 4294967295 (body_of l) ns p).0 in
         omega (arith, length-drop 2 l)
 
@@ -104,17 +104,17 @@ pub record Values-short (body vs : List ℕ) : Type 0 where
   pub spelled_short : weight spelled vs - 1 ≤ length body
   pub few : 2 * length vs ≤ length body + 1
 
-pub values_short : (l vs : List ℕ) → values_of l ≡ some vs → Values-short (body_of l) vs
+pub values_short : (l vs : List ℕ) → values_of l ≡ Some vs → Values-short (body_of l) vs
 unfolding values_of
 values_short l vs e = go (body_of l) e
   where
     short : (body vs : List ℕ) → weight spelled vs - 1 ≤ length body → 2 * length vs ≤ length body + 1 → Values-short body vs
     short body vs h k = record { spelled_short = h; few = k }
 
-    none_short : (vs : List ℕ) → ◌≡◌ {A = Option (List ℕ)} (some []) (some vs) → Values-short [] vs
+    none_short : (vs : List ℕ) → ◌≡◌ {A = Option (List ℕ)} (Some []) (Some vs) → Values-short [] vs
     none_short vs e = let q : [] ≡ vs = cc in rw (← q) (short [] [] (omega arith) (omega arith))
 
-    go : (body : List ℕ) → cond (is_empty body) (some []) (numbers_of 255 body) ≡ some vs → Values-short body vs
+    go : (body : List ℕ) → cond (is_empty body) (Some []) (numbers_of 255 body) ≡ Some vs → Values-short body vs
     go [] e = none_short vs e
     go (x ∷ xs) e =
         let body : List ℕ = x ∷ xs in

@@ -2,49 +2,24 @@
 // large, makes its line bad. A support crate: its functions may have a `requires`.
 #![tactic(auto)]
 
-ghost use Rattle.std.specs.Prelude.{◌≡◌, true, map, ◌≤◌, length};
-ghost use Rattle.std.proofs.Math.Option.{none};
+ghost use Rattle.std.specs.Prelude.{◌≡◌, true, map, ◌≤◌, length, None};
 ghost use Rattle.samtags.specs.Decimal.{value};
 ghost use Rattle.changing.specs.Windows.{stored_at};
 ghost use Rattle.lines.specs.Lines.{joined, are_numbers, numbers_of, given, cut_of};
-ghost use Rattle.operands.specs.Answers.{number_says, number_to, ends_says, ValuesPut, values_in};
+ghost use Rattle.operands.specs.Answers.{number_to, ends_says, ValuesPut, values_in};
 
-use numbers::Skip;
-
-// What a field says: a number, or that its line is bad.
-#[derive(Clone, Copy)]
-pub enum Number {
-    Of(usize),
-    Bad,
-}
-
-// How many values were written, or that their line is bad.
-#[derive(Clone, Copy)]
-pub enum Values {
-    Of(usize),
-    Bad,
-}
-
-// Bases off the front and off the back, or that the line is bad.
-#[derive(Clone, Copy)]
-pub enum Ends {
-    Of(u32, u32),
-    Bad,
-}
-
-// Reads a plain decimal of at most `most`. It is read up to `most` + 1, so that no number is too large to read.
-pub fn read_number(field: &[u8], most: usize) -> Number
+// Reads a plain decimal of at most `most`; None for any other field. It is read up to `most` + 1, so that no number is too large to read.
+pub fn read_number(field: &[u8], most: usize) -> Option<usize>
     requires { most ≤ 4294967295 }
-    ensures { number_says result ≡ number_to most field.now }
+    ensures { result ≡ number_to most field.now }
 {
-    let read = numbers::read_skip(field, most + 1);
-    let Skip::Of(n) = read else {
-        return Number::Bad;
+    let Ok(n) = numbers::read_skip(field, most + 1) else {
+        return None;
     };
     if most < n {
-        return Number::Bad;
+        return None;
     }
-    Number::Of(n)
+    Some(n)
 }
 
 // Writes a byte at each listed place that the row has, and answers whether the places are numbers of 32 bits. If not, nothing is promised about the row.
@@ -54,10 +29,10 @@ pub fn put_listed(body: &[u8], row: &mut [u8], b: u8) -> bool
         × (result ≡ true → row.new ≡ stored_at b (map value (joined body.now)) row.old) }
 {
     let mut at = 0;
+    // A cursor, not a count: a field is as long as it is, and the last one may be empty.
     while at <= body.len() {
         let field = lines::up_to(body, at, b',');
-        let number = read_number(field, 4294967295);
-        let Number::Of(place) = number else {
+        let Some(place) = read_number(field, 4294967295) else {
             return false;
         };
         numbers::put(row, place, b);
@@ -66,50 +41,43 @@ pub fn put_listed(body: &[u8], row: &mut [u8], b: u8) -> bool
     true
 }
 
-// Writes the values of an ML line, each at most 255, to the front of a row. An empty body lists none.
-pub fn put_values(body: &[u8], row: &mut [u8]) -> Values
+// Writes the values of an ML line, each at most 255, to the front of a row, and answers how many there are; None if the line is bad. An empty body
+// lists none.
+pub fn put_values(body: &[u8], row: &mut [u8]) -> Option<usize>
     requires { length body.now ≤ 4294967295 }
     ensures { ValuesPut (values_in body.now) result row.old row.new }
 {
     if body.len() == 0 {
-        return Values::Of(0);
+        return Some(0);
     }
     let mut at = 0;
     let mut n = 0;
+    // A cursor, not a count: a field is as long as it is, and the last one may be empty.
     while at <= body.len() {
         let field = lines::up_to(body, at, b',');
-        let number = read_number(field, 255);
-        let Number::Of(value) = number else {
-            return Values::Bad;
-        };
+        let value = read_number(field, 255)?;
         numbers::put(row, n, value as u8);
         n += 1;
         at = at + field.len() + 1;
     }
-    Values::Of(n)
+    Some(n)
 }
 
-// Reads exactly two numbers of 32 bits.
-pub fn read_ends(body: &[u8]) -> Ends
+// Reads exactly two numbers of 32 bits; None for any other body.
+pub fn read_ends(body: &[u8]) -> Option<(u32, u32)>
     requires { length body.now ≤ 4294967295 }
-    ensures { ends_says result ≡ given (numbers_of 4294967295 body.now) none cut_of }
+    ensures { ends_says result ≡ given (numbers_of 4294967295 body.now) None cut_of }
 {
     let front = lines::up_to(body, 0, b',');
     if front.len() == body.len() {
-        return Ends::Bad;
+        return None;
     }
     let second = front.len() + 1;
     let back = lines::up_to(body, second, b',');
     if second + back.len() != body.len() {
-        return Ends::Bad;
+        return None;
     }
-    let first = read_number(front, 4294967295);
-    let Number::Of(a) = first else {
-        return Ends::Bad;
-    };
-    let last = read_number(back, 4294967295);
-    let Number::Of(b) = last else {
-        return Ends::Bad;
-    };
-    Ends::Of(a as u32, b as u32)
+    let a = read_number(front, 4294967295)?;
+    let b = read_number(back, 4294967295)?;
+    Some((a as u32, b as u32))
 }

@@ -1,5 +1,6 @@
 -- Writing an entry and a group into the rows they were read from: past what is written the rows are unchanged.
 -- Assumes nothing.
+use Rattle.std.specs.Prelude.{Ok, Err}
 use mathlib.Core.Path.{◌≡◌, ◌∙◌, ap, refl, subst}
 use Prim.Native.Nat.{ℕ, ◌+◌, ◌-◌, ◌≤◌}
 use native.Mathlib.Omega.{arith}
@@ -10,12 +11,10 @@ use lib.Seq.{drop-drop}
 use Rattle.changing.specs.Drafts.{Draft, draft, entry_put, more}
 use Rattle.drafting.specs.Walks.{EntriesEdited, GroupEdited, group_put}
 use Rattle.drafting.specs.declared.Cursor.{Cursor}
-use Rattle.drafting.specs.declared.Edited.{Edited}
-use Rattle.drafting.specs.declared.Edited.TheVariants.{To, Refused}
 use Rattle.moving.proofs.RowLaws.{ahead_of, drop_stored, same_later}
 use Rattle.lent.proofs.Outcome.{on_done_inv}
 use Rattle.lent.specs.Lists.{concat_map}
-use Rattle.lent.specs.Outcome.{Outcome, done, on_done, refused}
+use Rattle.lent.specs.Outcome.{Outcome, on_done}
 use Rattle.samtags.specs.Edits.{Edit, changed}
 use Rattle.samtags.specs.Spots.{Group, Spot, values_of}
 use Rattle.samtags.specs.Text.{up_to}
@@ -40,7 +39,7 @@ put_ahead held dropped w gap vs w' gap' e = subst (λ (q : Draft × ℕ). AheadO
     go false dropped = (λ i h. refl, λ j h. refl)
 
 -- a group
-pub group_ahead : (e : Edit) (w : Draft) (o : Outcome (Group × List ℕ)) (w' : Draft) (left : List ℕ) → on_done (group_put e w) o ≡ done (w', left)
+pub group_ahead : (e : Edit) (w : Draft) (o : Outcome (Group × List ℕ)) (w' : Draft) (left : List ℕ) → on_done (group_put e w) o ≡ Ok (w', left)
     → AheadOf w w'
 group_ahead e w o w' left h =
     let i = on_done_inv (group_put e w) o (w', left) h in
@@ -49,21 +48,21 @@ group_ahead e w o w' left h =
 
 -- what is said of entries over a row is said of them over any row that is the same from the entries on
 pub entries_there : (held dropped : ℕ → Bool) (text text' ml : List ℕ) (c : Cursor) → drop c.at text ≡ drop c.at text'
-    → (o : Outcome (List Spot × List ℕ)) (t v : List ℕ) (r : Edited) (t' v' : List ℕ) → EntriesEdited held dropped text ml c o t v r t' v'
+    → (o : Outcome (List Spot × List ℕ)) (t v : List ℕ) (r : Outcome Cursor) (t' v' : List ℕ) → EntriesEdited held dropped text ml c o t v r t' v'
     → EntriesEdited held dropped text' ml c o t v r t' v'
-entries_there held dropped text text' ml c e o t v (Refused r) t' v' h = h
-entries_there held dropped text text' ml c e o t v (To d) t' v' h =
+entries_there held dropped text text' ml c e o t v (Err r) t' v' h = h
+entries_there held dropped text text' ml c e o t v (Ok d) t' v' h =
     (h.0 ∙ ap (λ (l : List ℕ). c.at + length (up_to 59 l)) e, h.1, h.2, h.3, h.4)
 
 -- o is what the answer says of the group at the cursor c: text₀ and ml₀ are the rows as they came in, text and ml as they are. Their parts from where
 -- the written parts end are lent, and come back as t' and v'
-abbrev pub GroupThere : Edit → List ℕ → List ℕ → Cursor → Outcome (Group × List ℕ) → List ℕ → List ℕ → Edited → List ℕ → List ℕ → Type 0
-GroupThere e text₀ ml₀ c o text ml (Refused r) t' v' = o ≡ refused r
-GroupThere e text₀ ml₀ c o text ml (To d) t' v' =
+abbrev pub GroupThere : Edit → List ℕ → List ℕ → Cursor → Outcome (Group × List ℕ) → List ℕ → List ℕ → Outcome Cursor → List ℕ → List ℕ → Type 0
+GroupThere e text₀ ml₀ c o text ml (Err r) t' v' = o ≡ Err r
+GroupThere e text₀ ml₀ c o text ml (Ok d) t' v' =
     (c.end + d.at ≡ c.at + length (up_to 59 (drop c.at text₀)) + 1) × (c.kept + d.used ≤ length ml₀)
     × (c.at + d.end ≤ c.end + d.at) × (c.used + d.kept ≤ c.kept + d.used)
     × (on_done (group_put e (draft (drop c.end text) 0 (drop c.kept ml) 0)) o
-    ≡ done (draft t' d.end v' d.kept, drop (c.kept + d.used) ml₀))
+    ≡ Ok (draft t' d.end v' d.kept, drop (c.kept + d.used) ml₀))
 
 module _ (e : Edit) (text₀ ml₀ text ml : List ℕ) (c : Cursor) (behind : c.end ≤ c.at) (behind-ml : c.kept ≤ c.used) (few : c.kept ≤ length ml)
     (there : drop c.at text ≡ drop c.at text₀) (there-ml : drop c.used ml ≡ drop c.used ml₀) (same : length ml ≡ length ml₀) where
@@ -73,10 +72,10 @@ module _ (e : Edit) (text₀ ml₀ text ml : List ℕ) (c : Cursor) (behind : c.
   abbrev ml_part : List ℕ
   ml_part = drop c.kept ml
 
-  group_known : (o : Outcome (Group × List ℕ)) (r : Edited) (t' v' : List ℕ)
+  group_known : (o : Outcome (Group × List ℕ)) (r : Outcome Cursor) (t' v' : List ℕ)
       → GroupEdited e part ml_part (c.at - c.end) (c.used - c.kept) o part ml_part r t' v' → GroupThere e text₀ ml₀ c o text ml r t' v'
-  group_known o (Refused r) t' v' h = h
-  group_known o (To d) t' v' h =
+  group_known o (Err r) t' v' h = h
+  group_known o (Ok d) t' v' h =
       let size : length (up_to 59 (drop (c.at - c.end) part)) ≡ length (up_to 59 (drop c.at text₀)) =
       ap (λ (l : List ℕ). length (up_to 59 l)) (ahead_of text text₀ c.end c.at behind there) in
       let past : c.used + d.kept ≤ c.kept + d.used = omega (arith, h.3, behind-ml) in
@@ -86,11 +85,11 @@ module _ (e : Edit) (text₀ ml₀ text ml : List ℕ) (c : Cursor) (behind : c.
         omega (arith, h.1, length-drop c.kept ml, few, same),
         omega (arith, h.2, behind),
         past,
-        h.4 ∙ ap (λ (l : List ℕ). done (draft t' d.end v' d.kept, l)) left,
+        h.4 ∙ ap (λ (l : List ℕ). Ok (draft t' d.end v' d.kept, l)) left,
       )
 
   -- what is said of the group over the parts is said of it over the rows as they came in
-  pub group_there : (read : List ℕ → List ℕ → Outcome (Group × List ℕ)) (r : Edited) (t' v' : List ℕ)
+  pub group_there : (read : List ℕ → List ℕ → Outcome (Group × List ℕ)) (r : Outcome Cursor) (t' v' : List ℕ)
       → GroupEdited e part ml_part (c.at - c.end) (c.used - c.kept) (read (drop (c.at - c.end) part) (drop (c.used - c.kept) ml_part))
       part ml_part r t' v'
       → GroupThere e text₀ ml₀ c (read (drop c.at text₀) (drop c.used ml₀)) text ml r t' v'

@@ -15,8 +15,8 @@ ghost use Rattle.changing.specs.Windows.{held_in, is_marked, denied_in, window_e
 ghost use Rattle.strides.specs.Counts.{Told};
 ghost use Rattle.drafting.specs.Walks.{EntriesEdited, GroupEdited, TagEdited};
 
-use drafting::{Cursor, Edited};
-use entries::{Kind, Pen, Reached};
+use drafting::Cursor;
+use entries::{Kind, Pen};
 use lent::Refusal;
 use places::Place;
 use strides::Window;
@@ -49,8 +49,8 @@ fn put_entry(
     let named = changing::is_named(marks, place);
     if named {
         return Pen {
-            end: end,
-            kept: kept,
+            end,
+            kept,
             gap: gap + 1,
         };
     }
@@ -74,7 +74,7 @@ fn edit_entries(
     start: Cursor,
     text: &mut [u8],
     ml: &mut [u8],
-) -> Edited
+) -> Result<Cursor, Refusal>
     requires seq_len_bound { (length seq.now ≤ 16000) × (length text.old ≤ 65536) × (length ml.old ≤ 65536) × Told window after.now seq.now }
     requires text_in_bounds { start.at + length (up_to semicolon (drop start.at text.old)) < length text.old }
     requires text_len { length (field_of (drop start.at text.old)) ≡ 0 }
@@ -89,21 +89,21 @@ fn edit_entries(
     let mut used = start.used;
     let mut pen = start.pen();
     let mut from = Place(0);
+    // A cursor, not a count: an entry's field is as long as it is.
     while text[at] == b',' {
         let left = ml.len() - used;
         let field = fields::next_field(text, at + 1);
         let width = field.len();
-        let reached = entries::read_entry(seq, after, marks, field, window, kind, from, left);
-        let Reached::On(place, passed) = reached else {
-            return Edited::Refused(reached.refusal());
-        };
+        let (place, passed) = entries::read_entry(
+            seq, after, marks, field, window, kind, from, left,
+        )?;
         let waiting = pen.past(passed);
         pen = put_entry(after, marks, window, kind, place, waiting, used, text, ml);
         from = Place(place.0 + 1);
         used = used + kind.values;
         at = at + 1 + width;
     }
-    Edited::To(Cursor::behind(at, used, pen))
+    Ok(Cursor::behind(at, used, pen))
 }
 
 // Edits the group that begins at a byte of the text, up to and including its ';', and writes it from the rows' starts on.
@@ -117,7 +117,7 @@ fn edit_group(
     used: usize,
     text: &mut [u8],
     ml: &mut [u8],
-) -> Edited
+) -> Result<Cursor, Refusal>
     requires seq_len_bound { (length seq.now ≤ 16000) × (length text.old ≤ 65536) × (length ml.old ≤ 65536) × Told window after.now seq.now }
     requires text_in_bounds { at + length (up_to semicolon (drop at text.old)) < length text.old }
     requires used_in_bounds { used ≤ length ml.old }
@@ -129,23 +129,20 @@ fn edit_group(
     let header = fields::next_field(text, at);
     let width = header.len();
     if width < 2 {
-        return Edited::Refused(Refusal(5));
+        return Err(Refusal::ShortHeader);
     }
     let kind = entries::kind_of(has_ml, header);
     moving::move_left(text, at, 0, width);
     let start = Cursor {
         at: at + width,
-        used: used,
+        used,
         end: width,
         kept: 0,
     };
-    let edited = edit_entries(seq, after, marks, window, kind, start, text, ml);
-    let Edited::To(stop) = edited else {
-        return edited;
-    };
+    let stop = edit_entries(seq, after, marks, window, kind, start, text, ml)?;
     let last = stop.end;
     text[last] = b';';
-    Edited::To(Cursor {
+    Ok(Cursor {
         at: stop.at + 1,
         used: stop.used,
         end: last + 1,
@@ -163,7 +160,7 @@ pub fn edit_groups(
     has_ml: bool,
     text: &mut [u8],
     ml: &mut [u8],
-) -> Edited
+) -> Result<Cursor, Refusal>
     requires { (length seq.now ≤ 16000) × (length text.old ≤ 65536) × (length ml.old ≤ 65536) × (last_or 0 text.old ≡ semicolon) }
     ensures { TagEdited (window_edit lo after.now marks.now)
         (read_groups has_ml (is_marked marks.now) seq.now (closed_by semicolon text.old) ml.old)
@@ -177,10 +174,11 @@ pub fn edit_groups(
         end: 0,
         kept: 0,
     };
+    // A cursor, not a count: a group is as long as it is.
     while c.at < text.len() {
         let end = c.end;
         let kept = c.kept;
-        let edited = edit_group(
+        let group = edit_group(
             seq,
             after,
             marks,
@@ -190,10 +188,7 @@ pub fn edit_groups(
             c.used - kept,
             &mut text[end..],
             &mut ml[kept..],
-        );
-        let Edited::To(group) = edited else {
-            return edited;
-        };
+        )?;
         c = Cursor {
             at: end + group.at,
             used: kept + group.used,
@@ -202,7 +197,7 @@ pub fn edit_groups(
         };
     }
     if c.used < ml.len() {
-        return Edited::Refused(Refusal(9));
+        return Err(Refusal::MlLeftOver);
     }
-    Edited::To(c)
+    Ok(c)
 }

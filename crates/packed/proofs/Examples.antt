@@ -1,9 +1,9 @@
 -- Packed SEQ, by computation: turning, packing and unpacking, the complement of each letter, and places, ends and windows of a reverse read.
 -- Assumes nothing.
+use Rattle.std.specs.Prelude.{None, Some}
 use mathlib.Core.Path.{◌≡◌, refl}
 use mathlib.Core.Bool.{true, false}
 use mathlib.Core.List.{[], ◌∷◌, map}
-use mathlib.Core.Option.{none, some}
 use Rattle.samtags.specs.Bytes.{ascii}
 use Rattle.samtags.specs.Session.{cut, drop_calls, mask}
 use Rattle.packed.specs.Packed.{code_of, complement, letters, pack, reverse_complement, turn, unpack}
@@ -64,13 +64,13 @@ mirrored_places = (refl, refl, refl, refl, refl)
 
 -- a window's start: unknown stays unknown, and a window that does not fit has none
 pub window_starts :
-    (start_in_read true 10 3 (some 0) ≡ some 7)
-    × (start_in_read true 10 3 (some 7) ≡ some 0)
-    × (start_in_read true 10 3 (some 2) ≡ some 5)
-    × (start_in_read true 10 3 (some 8) ≡ none)
-    × (start_in_read true 10 3 none ≡ none)
-    × (start_in_read false 10 3 (some 8) ≡ some 8)
-    × (start_in_read false 10 3 none ≡ none)
+    (start_in_read true 10 3 (Some 0) ≡ Some 7)
+    × (start_in_read true 10 3 (Some 7) ≡ Some 0)
+    × (start_in_read true 10 3 (Some 2) ≡ Some 5)
+    × (start_in_read true 10 3 (Some 8) ≡ None)
+    × (start_in_read true 10 3 None ≡ None)
+    × (start_in_read false 10 3 (Some 8) ≡ Some 8)
+    × (start_in_read false 10 3 None ≡ None)
 window_starts = (refl, refl, refl, refl, refl, refl, refl)
 
 -- a cut exchanges its ends, and a mask and a drop count their places from the other end

@@ -1,8 +1,7 @@
 -- A read as a BAM record stores it. A reverse read is stored reverse-complemented, and its tag stays in read orientation. Everything that is counted in
 -- the stored read (a place, the two ends of a cut, the start of a window) has its counterpart in read orientation.
 -- Assumes nothing.
-use Rattle.std.specs.Prelude.{ℕ, ◌+◌, ◌-◌, Bool, cond, List, map, leb, ltb}
-use Rattle.std.proofs.Math.Option.{Option, none, some}
+use Rattle.std.specs.Prelude.{ℕ, ◌+◌, ◌-◌, Bool, cond, List, map, leb, ltb, Option, None, Some}
 use Rattle.lent.specs.Lists.{filter}
 use Rattle.samtags.specs.Session.{Step, mask, drop_calls, cut}
 use Rattle.packed.specs.Packed.{pack, reverse_complement, unpack}
@@ -31,8 +30,8 @@ places_in_read reverse n places = cond reverse (map (mirrored n) (filter (λ p. 
 
 -- the start of a window of k bases in a read of n bases, in read orientation; unknown if the window does not fit
 abbrev pub start_mirrored : ℕ → ℕ → Option ℕ → Option ℕ
-start_mirrored n k none = none
-start_mirrored n k (some s) = cond (leb (s + k) n) (some (n - (s + k))) none
+start_mirrored n k None = None
+start_mirrored n k (Some s) = cond (leb (s + k) n) (Some (n - (s + k))) None
 
 abbrev pub start_in_read : Bool → ℕ → ℕ → Option ℕ → Option ℕ
 start_in_read reverse n k start = cond reverse (start_mirrored n k start) start

@@ -44,10 +44,8 @@ fn unpack_forward(packed: &[u8], n: usize, row: &mut [u8])
     let first = packed::first_table();
     let second = packed::second_table();
     let whole = n / 2;
-    let mut i = 0;
-    while i < whole {
+    for i in 0..whole {
         put_pair(&first, &second, packed[i], row, 2 * i);
-        i += 1;
     }
     if n % 2 == 1 {
         row[n - 1] = entry(&first, packed[whole]);
@@ -76,10 +74,8 @@ fn unpack_backward(packed: &[u8], n: usize, row: &mut [u8])
     let second = packed::turned_second_table();
     let whole = n / 2;
     let odd = put_odd(packed, n, &second, row);
-    let mut i = 0;
-    while i < whole {
+    for i in 0..whole {
         put_pair(&first, &second, packed[whole - 1 - i], row, odd + 2 * i);
-        i += 1;
     }
 }
 
@@ -103,10 +99,8 @@ fn pack_forward(bases: &[u8], out: &mut [u8])
     let coded = packed::code_table();
     let n = bases.len();
     let whole = n / 2;
-    let mut i = 0;
-    while i < whole {
+    for i in 0..whole {
         out[i] = packed_pair(&coded, bases[2 * i], bases[2 * i + 1]);
-        i += 1;
     }
     if n % 2 == 1 {
         out[whole] = entry(&coded, bases[n - 1]) * 16;
@@ -122,12 +116,10 @@ fn pack_backward(bases: &[u8], out: &mut [u8])
     let coded = packed::code_table();
     let n = bases.len();
     let whole = n / 2;
-    let mut i = 0;
-    while i < whole {
+    for i in 0..whole {
         let at = n - 1 - 2 * i;
         let pair = packed_pair(&coded, bases[at - 1], bases[at]);
         out[i] = entry(&turned, pair);
-        i += 1;
     }
     if n % 2 == 1 {
         out[whole] = entry(&turned, entry(&coded, bases[0]));
@@ -153,12 +145,8 @@ fn turn_even(packed: &[u8], n: usize, out: &mut [u8])
 {
     let turned = packed::pair_table();
     let whole = n / 2;
-    let mut at = whole;
-    let mut i = 0;
-    while i < whole {
-        at -= 1;
-        out[i] = entry(&turned, packed[at]);
-        i += 1;
+    for i in 0..whole {
+        out[i] = entry(&turned, packed[whole - 1 - i]);
     }
 }
 
@@ -171,13 +159,10 @@ fn turn_odd(packed: &[u8], n: usize, out: &mut [u8])
     let second = packed::second_high_table();
     let whole = n / 2;
     let mut last = entry(&second, packed[whole]);
-    let mut at = whole;
-    let mut i = 0;
-    while i < whole {
-        at -= 1;
+    for i in 0..whole {
+        let at = whole - 1 - i;
         out[i] = last + entry(&first, packed[at]);
         last = entry(&second, packed[at]);
-        i += 1;
     }
     out[whole] = last;
 }

@@ -1,6 +1,7 @@
 -- Laws of walking a text from the left: the fields of a group from a separator on, the groups from a group's first byte on, and what is read with one more
 -- entry or one more group.
 -- Assumes nothing.
+use Rattle.std.specs.Prelude.{Ok, Err}
 use mathlib.Core.Path.{◌≡◌, refl, ◌∙◌, ap, sym}
 use Prim.Native.Nat.{◌+◌, ◌-◌, ◌<◌, ◌≤◌, suc, zero, ℕ}
 use native.Mathlib.Numerals.{add-one}
@@ -15,7 +16,7 @@ use Rattle.lent.proofs.Lists.{drop_here}
 use Rattle.lent.proofs.Outcome.{done_inj, need_rest, need_test, with_first_inv}
 use Rattle.lent.proofs.Tests.{by-test}
 use Rattle.lent.specs.Lists.{last_or}
-use Rattle.lent.specs.Outcome.{and_then, done, need, refusal, refuse, refused, with_first, Outcome}
+use Rattle.lent.specs.Outcome.{and_then, need, refusal, refuse, with_first, Outcome}
 use Rattle.lent.specs.declared.Refusal.{Refusal}
 use Rattle.samtags.specs.Decimal.{is_number, value}
 use Rattle.samtags.specs.Reading.{denied_to, read_entry, read_group, read_groups, read_spots, values_if}
@@ -115,24 +116,24 @@ rest_of (x ∷ xs) i b (suc m) p rest e =
     (λ h. let r = rest_of xs (suc i) b m p rest (rw h at e) in (suc r.0, omega arith, omega arith, r.3))
     (λ h. let r = rest_of xs (suc i) b (suc m) p rest (rw h at e) in (suc r.0, omega arith, omega arith, r.3))
 
-entry_known : (f places : List ℕ) (p : ℕ) → done p ≡ entry_at f places → (is_number f ≡ true) × (rest : List ℕ) × (drop (value f) places ≡ p ∷ rest)
+entry_known : (f places : List ℕ) (p : ℕ) → Ok p ≡ entry_at f places → (is_number f ≡ true) × (rest : List ℕ) × (drop (value f) places ≡ p ∷ rest)
 unfolding entry_at
 entry_known f places p e =
     let hop = with_first_inv (drop (value f) places) 7 _ p (need_rest (is_number f) 6 _ p (sym e)) in
     (need_test (is_number f) 6 _ p (sym e), hop.1, hop.2 ∙ ap (λ (q : ℕ). q ∷ hop.1) (done_inj hop.3))
 
 module _ (k : ℕ) (denied : ℕ → Bool) (f places : List ℕ) (n : ℕ) where
-  pub entry_refused : (r : Refusal) → refused r ≡ entry_at f places → read_entry k denied f places n ≡ refused r
+  pub entry_refused : (r : Refusal) → Err r ≡ entry_at f places → read_entry k denied f places n ≡ Err r
   unfolding entry_at read_entry
   entry_refused r e = go (is_number f) (drop (value f) places) e
     where
-      go : (t : Bool) (l : List ℕ) → ◌≡◌ {A = Outcome ℕ} (refused r) (need t 6 (with_first l 7 (λ p rest. done p)))
-          → need {A = ℕ × List ℕ} t 6 (with_first l 7 (λ p rest. need (leb k n) 8 (need (not (denied p)) 10 (done (p, rest))))) ≡ refused r
+      go : (t : Bool) (l : List ℕ) → ◌≡◌ {A = Outcome ℕ} (Err r) (need t 6 (with_first l 7 (λ p rest. Ok p)))
+          → need {A = ℕ × List ℕ} t 6 (with_first l 7 (λ p rest. need (leb k n) 8 (need (not (denied p)) 10 (Ok (p, rest))))) ≡ Err r
       go false l e = let q : r ≡ refusal 6 = cc in rw q
       go true [] e = let q : r ≡ refusal 7 = cc in rw q
       go true (p ∷ rest) e = let z : ◌≡◌ {A = ℕ} 0 1 = cc in absurd (omega arith)
 
-  module _ (p : ℕ) (e : done p ≡ entry_at f places) where
+  module _ (p : ℕ) (e : Ok p ≡ entry_at f places) where
     pub entry_eight : n < k → read_entry k denied f places n ≡ refuse 8
     unfolding read_entry
     entry_eight l = let w = entry_known f places p e in rw (w.0, w.2, lt-leb k n l)
@@ -142,8 +143,8 @@ module _ (k : ℕ) (denied : ℕ → Bool) (f places : List ℕ) (n : ℕ) where
     entry_ten l d = let w = entry_known f places p e in rw (w.0, w.2, le-leb k n l, d)
 
 -- an entry that is read: its place lies in SEQ, and the places after it are those from the next place on
-pub entry_went : (k : ℕ) (denied : ℕ → Bool) (f : List ℕ) (i b : ℕ) (s : List ℕ) (n p : ℕ) → done p ≡ entry_at f (tracked_from b i s) → k ≤ n
-    → denied p ≡ false → (read_entry k denied f (tracked_from b i s) n ≡ done (p, tracked_from b (p + 1) s)) × (p < length s)
+pub entry_went : (k : ℕ) (denied : ℕ → Bool) (f : List ℕ) (i b : ℕ) (s : List ℕ) (n p : ℕ) → Ok p ≡ entry_at f (tracked_from b i s) → k ≤ n
+    → denied p ≡ false → (read_entry k denied f (tracked_from b i s) n ≡ Ok (p, tracked_from b (p + 1) s)) × (p < length s)
 unfolding read_entry tracked_from
 entry_went k denied f i b s n p e l d =
     let w = entry_known f (tracked_from b i s) p e in
@@ -156,15 +157,15 @@ entry_went k denied f i b s n p e l d =
 
 module _ (k : ℕ) (denied : ℕ → Bool) (t : List ℕ) (at : ℕ) (l : at < length t) (comma : get_or t at 0 ≡ 44)
     (f : List ℕ) (q : f ≡ field_of (drop (at + 1) t)) (places ml : List ℕ) (used : ℕ) where
-  pub turn_refused : (r : Refusal) → read_entry k denied f places (length ml - used) ≡ refused r
-      → read_spots k denied (led_by 44 (up_to 59 (drop at t))) places (drop used ml) ≡ refused r
+  pub turn_refused : (r : Refusal) → read_entry k denied f places (length ml - used) ≡ Err r
+      → read_spots k denied (led_by 44 (up_to 59 (drop at t))) places (drop used ml) ≡ Err r
   unfolding read_spots
   turn_refused r h = rw (led_comma t at l comma, ← q, length-drop used ml, h)
 
-  pub turn_on : (p : ℕ) (rest : List ℕ) → read_entry k denied f places (length ml - used) ≡ done (p, rest)
+  pub turn_on : (p : ℕ) (rest : List ℕ) → read_entry k denied f places (length ml - used) ≡ Ok (p, rest)
       → read_spots k denied (led_by 44 (up_to 59 (drop at t))) places (drop used ml)
       ≡ and_then (read_spots k denied (led_by 44 (up_to 59 (drop (at + 1 + length f) t))) rest (drop (used + k) ml)) (λ r.
-      done (map bare (take (value f) places) ++ call p (take k (drop used ml)) ∷ r.0, r.1))
+      Ok (map bare (take (value f) places) ++ call p (take k (drop used ml)) ∷ r.0, r.1))
   unfolding read_spots
   turn_on p rest h = rw (led_comma t at l comma, ← q, length-drop used ml, h, led_from t (at + 1) (length f) (ap length (sym q)), drop-drop k used ml)
 
@@ -175,7 +176,7 @@ module _ (k : ℕ) (denied : ℕ → Bool) (t : List ℕ) (at : ℕ) (l : at < l
   turn_field = field_from t (at + 1) (length f) (ap length (sym q))
 
 pub turn_end : (k : ℕ) (denied : ℕ → Bool) (t : List ℕ) (at : ℕ) → at < length t → get_or t at 0 ≡ 59 → (places ml : List ℕ)
-    → read_spots k denied (led_by 44 (up_to 59 (drop at t))) places ml ≡ done (map bare places, ml)
+    → read_spots k denied (led_by 44 (up_to 59 (drop at t))) places ml ≡ Ok (map bare places, ml)
 unfolding read_spots
 turn_end k denied t at l h places ml = rw (led_semicolon t at l h)
 
@@ -193,7 +194,7 @@ module _ (ml? : Bool) (named : ℕ → Bool) (seq t : List ℕ) (at : ℕ) (h : 
 
   pub group_on : 2 ≤ length h → read_group ml? named seq (up_to 59 (drop at t)) ml
       ≡ and_then (read_spots (values_if ml? h) (denied_to h named) (led_by 44 (up_to 59 (drop (at + length h) t))) (tracked (base_of h) seq) ml) (λ r.
-      done (record { header = h; spots = r.0 }, r.1))
+      Ok (record { header = h; spots = r.0 }, r.1))
   unfolding read_group
   group_on s = rw (← q, le-leb 2 (length h) s, led_from t at (length h) (ap length (sym q)))
 
@@ -202,7 +203,7 @@ pub groups_at : (ml? : Bool) (named : ℕ → Bool) (seq t : List ℕ) (at : ℕ
     → read_groups ml? named seq (closed_by 59 (drop at t)) ml
     ≡ and_then (read_group ml? named seq (up_to 59 (drop at t)) ml) (λ r.
     and_then (read_groups ml? named seq (closed_by 59 (drop (at + length (up_to 59 (drop at t)) + 1) t)) r.1) (λ rest.
-    done (r.0 ∷ rest)))
+    Ok (r.0 ∷ rest)))
 unfolding read_groups
 groups_at ml? named seq t at l last ml = rw (closed_at t at l last)
 
@@ -212,6 +213,6 @@ unfolding read_groups
 groups_over ml? named seq t at l ml used h = rw (drop_of_length-le t l, drop_here ml used 0 h)
 
 pub groups_done : (ml? : Bool) (named : ℕ → Bool) (seq t : List ℕ) (at : ℕ) → length t ≤ at → (ml : List ℕ) (used : ℕ) → length ml ≤ used
-    → read_groups ml? named seq (closed_by 59 (drop at t)) (drop used ml) ≡ done []
+    → read_groups ml? named seq (closed_by 59 (drop at t)) (drop used ml) ≡ Ok []
 unfolding read_groups
 groups_done ml? named seq t at l ml used h = rw (drop_of_length-le t l, drop_of_length-le ml h)

@@ -1,12 +1,12 @@
 -- The bases of a kind from a place of SEQ on, in the order of the walk; and an entry from the answers of its parts.
 -- Assumes nothing.
+use Rattle.std.specs.Prelude.{Ok, Err, None, Some}
 use mathlib.Core.Path.{◌≡◌, ◌∙◌, ap, sym, refl}
 use Prim.Native.Nat.{◌+◌, ◌-◌, ◌<◌, ◌≤◌, min, suc, ℕ}
 use native.Mathlib.Numerals.{add-one}
 use native.Mathlib.Omega.{arith}
 use mathlib.Core.Bool.{false, true}
 use mathlib.Core.List.{List, [], ◌∷◌, ◌++◌}
-use mathlib.Core.Option.{none, some}
 use lib.Dec.{leb}
 use lib.ListN.{drop, drop_of_length-le, get_or, length, length-drop}
 use lib.Seq.{drop-append-add, drop-nil}
@@ -14,7 +14,7 @@ use borrow.Author.Tests.{leb-false, leb-true}
 use Rattle.lent.proofs.Lists.{drop_here}
 use Rattle.lent.proofs.Outcome.{done_inj, need_rest, need_test}
 use Rattle.lent.proofs.Tests.{by-test}
-use Rattle.lent.specs.Outcome.{need, refuse, with_first, done, refused}
+use Rattle.lent.specs.Outcome.{need, refuse, with_first}
 use Rattle.lent.specs.declared.Refusal.{Refusal}
 use Rattle.samtags.proofs.Places.{places_length}
 use Rattle.samtags.specs.Decimal.{is_number, value}
@@ -76,35 +76,43 @@ bounded_drop most n ps h =
 
 -- ---- an entry, by what the skip reader and the walk answer
 
-pub entry_six : (f places : List ℕ) (n : ℕ) (r : Refusal) → refused r ≡ need (is_number f) 6 (done n) → refused r ≡ entry_at f places
+pub entry_six : (f places : List ℕ) (n : ℕ) (r : Refusal) → Err r ≡ need (is_number f) 6 (Ok n) → Err r ≡ entry_at f places
 unfolding entry_at
 entry_six f places n r e =
     by-test (is_number f)
-    (λ t. let x : refused r ≡ done n = rw t at e in let z : ◌≡◌ {A = ℕ} 0 1 = cc in absurd (omega arith))
+    (λ t. let x : Err r ≡ Ok n = rw t at e in let z : ◌≡◌ {A = ℕ} 0 1 = cc in absurd (omega arith))
     (λ t. rw t (rw t at e))
 
+-- the same, by the number
+pub entry_not_decimal : (f places : List ℕ) (n : ℕ) (r : Refusal) → Err r ≡ need (is_number f) 6 (Ok n) → refuse 6 ≡ entry_at f places
+unfolding entry_at
+entry_not_decimal f places n r e =
+    by-test (is_number f)
+    (λ t. let x : Err r ≡ Ok n = rw t at e in let z : ◌≡◌ {A = ℕ} 0 1 = cc in absurd (omega arith))
+    (λ t. rw t refl)
+
 -- where the skip's bound lets pass as many places as there are
-module _ (f places : List ℕ) (most : ℕ) (few : length places ≤ most) (n : ℕ) (e : done n ≡ need (is_number f) 6 (done (min most (value f)))) where
+module _ (f places : List ℕ) (most : ℕ) (few : length places ≤ most) (n : ℕ) (e : Ok n ≡ need (is_number f) 6 (Ok (min most (value f)))) where
   is_number_lem : is_number f ≡ true
-  is_number_lem = need_test (is_number f) 6 (done (min most (value f))) n (sym e)
+  is_number_lem = need_test (is_number f) 6 (Ok (min most (value f))) n (sym e)
 
   passes : drop n places ≡ drop (value f) places
   passes =
-      let q : min most (value f) ≡ n = done_inj (need_rest (is_number f) 6 (done (min most (value f))) n (sym e)) in
+      let q : min most (value f) ≡ n = done_inj (need_rest (is_number f) 6 (Ok (min most (value f))) n (sym e)) in
       rw (← q) (bounded_drop most (value f) places few)
 
-  pub entry_seven : none ≡ first_of (drop n places) → refuse 7 ≡ entry_at f places
+  pub entry_seven : None ≡ first_of (drop n places) → refuse 7 ≡ entry_at f places
   unfolding entry_at
   entry_seven h = rw (is_number_lem, ← passes) (go (drop n places) h)
     where
-      go : (l : List ℕ) → none ≡ first_of l → refuse {A = ℕ} 7 ≡ with_first l 7 (λ p rest. done p)
+      go : (l : List ℕ) → None ≡ first_of l → refuse {A = ℕ} 7 ≡ with_first l 7 (λ p rest. Ok p)
       go [] h = refl
       go (x ∷ xs) h = let z : ◌≡◌ {A = ℕ} 0 1 = cc in absurd (omega arith)
 
-  pub entry_on : (p : ℕ) → some p ≡ first_of (drop n places) → done p ≡ entry_at f places
+  pub entry_on : (p : ℕ) → Some p ≡ first_of (drop n places) → Ok p ≡ entry_at f places
   unfolding entry_at
   entry_on p h = rw (is_number_lem, ← passes) (go (drop n places) h)
     where
-      go : (l : List ℕ) → some p ≡ first_of l → done p ≡ with_first l 7 (λ p rest. done p)
+      go : (l : List ℕ) → Some p ≡ first_of l → Ok p ≡ with_first l 7 (λ p rest. Ok p)
       go [] h = let z : ◌≡◌ {A = ℕ} 0 1 = cc in absurd (omega arith)
       go (x ∷ xs) h = let q : p ≡ x = cc in rw q

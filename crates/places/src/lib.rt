@@ -4,11 +4,10 @@
 
 ghost use Rattle.std.specs.Prelude.{◌≡◌, ◌≤◌, length, drop};
 ghost use Rattle.strides.specs.Counts.{between};
-ghost use Rattle.places.specs.Answers.{found_says, entry_says, entry_refusal};
+ghost use Rattle.places.specs.Answers.{found_says, entry_says};
 ghost use Rattle.places.specs.Walk.{first_of, tracked_from, entry_at};
 
 use lent::Refusal;
-use numbers::Skip;
 use strides::{Stride, Window};
 
 // How many of the group's bases were passed.
@@ -18,12 +17,6 @@ pub struct Ordinal(pub usize);
 // A place in SEQ.
 #[derive(Clone, Copy)]
 pub struct Place(pub usize);
-
-#[derive(Clone, Copy)]
-pub enum Found {
-    At(Place),
-    Nothing,
-}
 
 // Where a walk may begin: after whole blocks, if there are more than a few bases to pass and the base is not 'N'; else at `from`.
 fn ahead(seq: &[u8], base: u8, from: usize, skip: usize) -> Stride
@@ -43,58 +36,35 @@ fn ahead(seq: &[u8], base: u8, from: usize, skip: usize) -> Stride
 }
 
 // From a place on, passes `skip` of the group's bases and returns the place of the next one.
-pub fn next_tracked(seq: &[u8], base: u8, from: Place, skip: Ordinal) -> Found
+pub fn next_tracked(seq: &[u8], base: u8, from: Place, skip: Ordinal) -> Option<Place>
     requires { (from.0 ≤ length seq.now) × (length seq.now ≤ 16000) }
     ensures { found_says result ≡ first_of (drop skip.0 (tracked_from base from.0 seq.now)) }
 {
     let start = ahead(seq, base, from.0, skip.0);
     let mut ordinal = Ordinal(start.passed);
-    let mut pos = Place(start.place);
-    while pos.0 < seq.len() {
-        let at = pos.0;
+    for at in start.place..seq.len() {
         let hit = strides::counts(base, seq[at]);
         if hit {
             if ordinal.0 == skip.0 {
-                return Found::At(pos);
+                return Some(Place(at));
             }
             ordinal = Ordinal(ordinal.0 + 1);
         }
-        pos = Place(at + 1);
     }
-    Found::Nothing
-}
-
-// The place of an entry's base, or why there is none.
-#[derive(Clone, Copy)]
-pub enum Entry {
-    On(Place),
-    Refused(Refusal),
-}
-
-impl Entry {
-    // The refusal, unchanged. `On` gives the number 0.
-    pub fn refusal(self) -> Refusal
-        ensures { result ≡ entry_refusal self }
-    {
-        match self {
-            Entry::On(_) => Refusal(0),
-            Entry::Refused(refusal) => refusal,
-        }
-    }
+    None
 }
 
 // The base that an entry lists, from a place on: 6 if its field is no number, 7 if SEQ has too few bases for it.
-pub fn find_entry(seq: &[u8], base: u8, field: &[u8], from: Place) -> Entry
+pub fn find_entry(seq: &[u8], base: u8, field: &[u8], from: Place) -> Result<Place, Refusal>
     requires { (length seq.now ≤ 16000) × (from.0 ≤ length seq.now) }
     ensures { entry_says result ≡ entry_at field.now (tracked_from base from.0 seq.now) }
 {
-    let read = numbers::read_skip(field, 16001);
-    let Skip::Of(skip) = read else {
-        return Entry::Refused(read.refusal());
+    // A field's reading gives a skip or a refusal, and is taken apart at once.
+    let Ok(skip) = numbers::read_skip(field, 16001) else {
+        return Err(Refusal::BadSkip);
     };
-    let found = next_tracked(seq, base, from, Ordinal(skip));
-    let Found::At(place) = found else {
-        return Entry::Refused(Refusal(7));
+    let Some(place) = next_tracked(seq, base, from, Ordinal(skip)) else {
+        return Err(Refusal::SkipTooFar);
     };
-    Entry::On(place)
+    Ok(place)
 }

@@ -1,11 +1,11 @@
 -- Writing lines and decimals, store by store.
 -- Assumes nothing.
 use mathlib.Core.Path.{◌≡◌, refl, sym, ap, ◌∙◌}
-use Prim.Native.Nat.{ℕ, suc, ◌+◌, ◌≤◌, ◌<◌}
+use Prim.Native.Nat.{ℕ, suc, ◌+◌, ◌-◌, ◌≤◌, ◌<◌}
 use native.Mathlib.Omega.{arith}
 use mathlib.Core.List.{List, [], ◌∷◌, ◌++◌, append-nil}
-use lib.ListN.{length, get_or, drop, set, length-append, drop_of_length-le}
-use lib.Seq.{sets}
+use lib.ListN.{length, get_or, take, drop, set, length-append, length-drop, drop_of_length-le}
+use lib.Seq.{get_or-drop, sets, take_all}
 use Rattle.lent.proofs.Lists.{drop_here}
 use Rattle.lent.proofs.Stores.{sets_append}
 use Rattle.samtags.proofs.Decimal.{digits_few}
@@ -58,6 +58,13 @@ module _ (l : List ℕ) (at : ℕ) (vs : List ℕ) (some : 0 < length vs) (l' : 
     ap length (decimals_are vs some),
     length-append (digits (get_or vs 0 0)) (entries_text (drop 1 vs)),
   )
+
+-- those that follow, as the loop reads them
+pub after_first : (vs : List ℕ) (i : ℕ) → get_or (take (length vs - 1) (drop 1 vs)) i 0 ≡ get_or vs (i + 1) 0
+after_first vs i =
+    let same : 1 + i ≡ i + 1 = omega arith in
+    ap (λ (l : List ℕ). get_or l i 0) (take_all (length vs - 1) (drop 1 vs) (omega (arith, length-drop 1 vs)))
+    ∙ get_or-drop 1 vs i 0 ∙ ap (λ (k : ℕ). get_or vs k 0) same
 
 -- one more of those that follow
 module _ (l : List ℕ) (at : ℕ) (vs : List ℕ) (i : ℕ) (some : i < length vs) (l' : List ℕ) (end : ℕ)

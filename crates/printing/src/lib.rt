@@ -41,10 +41,8 @@ fn put_decimals(out: &mut [u8], at: usize, values: &[u8]) -> usize
         return at;
     }
     let mut end = numbers::put_decimal(out, at, values[0] as usize);
-    let mut i = 1;
-    while i < values.len() {
-        end = entries::put_skip(out, end, values[i] as usize);
-        i += 1;
+    for &value in &values[1..] {
+        end = entries::put_skip(out, end, value as usize);
     }
     end
 }

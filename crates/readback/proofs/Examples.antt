@@ -1,5 +1,6 @@
 -- The hypotheses of the promises of reading back can be met: each promise is applied to a worked call, for which all its hypotheses hold together.
 -- Assumes nothing.
+use Rattle.std.specs.Prelude.{Ok}
 use mathlib.Core.Path.{refl}
 use Prim.Native.Nat.{ℕ}
 use native.Mathlib.Omega.{arith}
@@ -8,8 +9,6 @@ use mathlib.Core.List.{List, [], ◌∷◌, ◌++◌}
 use lib.IntN.{pos}
 use lib.ListN.{replicate}
 use Rattle.lent.specs.Filled.{leaves}
-use Rattle.lent.specs.declared.Tagged.TheVariants as tagged
-use Rattle.lent.specs.declared.Written.TheVariants as written
 use Rattle.pattern.specs.Case.{same_in_any_case, upper}
 use Rattle.pattern.specs.declared.ConversionPattern.TheVariants.{CToT, GToA}
 use Rattle.pattern.specs.declared.MethylationMode.TheVariants.{EmSeq}
@@ -21,7 +20,6 @@ use Rattle.building.specs.PublicContracts.{Built, BuiltAlone}
 use Rattle.duplex.specs.PublicContracts.{Duplexes, Rows, eleven_rows}
 use Rattle.duplex.specs.Duplex.{duplex_tags, rows, strand}
 use Rattle.duplex.specs.declared.Lengths.{Lengths}
-use Rattle.duplex.specs.declared.Duplex.TheVariants as duplex
 use Rattle.readback.proofs.Built.{ReadsBack, built_alone_reads_back, built_reads_back}
 use Rattle.readback.proofs.Joined.{first_reads_back, joined_reads_back, second_reads_back}
 
@@ -36,7 +34,7 @@ zeros n = replicate n 0
 abbrev on_c : List Call → Listing
 on_c calls = record { header = ascii "C+m?"; calls = calls }
 
-worked_built : Built EmSeq CToT seen (ascii "ACGC") (zeros 12) (zeros 3) (tagged.Done 9 2) (ascii "C+m?,0,0;" ++ zeros 3) (128 ∷ 255 ∷ 0 ∷ [])
+worked_built : Built EmSeq CToT seen (ascii "ACGC") (zeros 12) (zeros 3) (Ok (9, 2)) (ascii "C+m?,0,0;" ++ zeros 3) (128 ∷ 255 ∷ 0 ∷ [])
 unfolding build_tag leaves
 worked_built = (refl, refl, refl)
 
@@ -46,7 +44,7 @@ unfolding upper evidence_calls
 worked_built_reads_back =
     built_reads_back EmSeq CToT seen (ascii "ACGC") (zeros 12) (zeros 3) refl 9 2 (ascii "C+m?,0,0;" ++ zeros 3) (128 ∷ 255 ∷ 0 ∷ []) worked_built
 
-worked_alone : BuiltAlone EmSeq CToT seen (ascii "ACGC") (zeros 12) (written.Done 9) (ascii "C+m?,0,0;" ++ zeros 3)
+worked_alone : BuiltAlone EmSeq CToT seen (ascii "ACGC") (zeros 12) (Ok 9) (ascii "C+m?,0,0;" ++ zeros 3)
 unfolding build_tag leaves
 worked_alone = (refl, refl)
 
@@ -85,7 +83,7 @@ left = eleven_rows
 abbrev lengths : Lengths
 lengths = rows 4 16 3 4 4 9 4 4 7 4 4
 
-worked_duplex : Duplexes 2 EmSeq (ascii "ATGC") first second lent (duplex.Done lengths) left
+worked_duplex : Duplexes 2 EmSeq (ascii "ATGC") first second lent (Ok lengths) left
 unfolding duplex_tags joined_tag leaves
 worked_duplex = (refl, refl, refl, refl, refl, refl, refl, refl, refl, refl, refl, refl)
 

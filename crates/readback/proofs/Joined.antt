@@ -1,6 +1,7 @@
 -- One strand or two: over upper-case bases the reader accepts the joined tag that the duplex call leaves in the lent rows, read over the SEQ that the call
 -- leaves. The reader lists exactly the calls of the strands' evidence, C to T first.
 -- Assumes nothing.
+use Rattle.std.specs.Prelude.{Ok}
 use mathlib.Core.Path.{◌≡◌, refl, sym, ap, ◌∙◌}
 use Prim.Native.Nat.{ℕ, ◌<◌, ◌≤◌}
 use native.Mathlib.Omega.{arith}
@@ -9,7 +10,7 @@ use mathlib.Core.List.{List, [], ◌∷◌}
 use lib.Dec.{eqb}
 use lib.ListN.{length, take}
 use Rattle.lent.specs.Lists.{is_empty}
-use Rattle.lent.specs.Outcome.{done, need}
+use Rattle.lent.specs.Outcome.{need}
 use Rattle.lent.proofs.Leaves.{front_is_part}
 use Rattle.lent.proofs.Tests.{by-test, and_true, and_true_l, and_true_r}
 use Rattle.lent.proofs.Outcome.{on_done_inv, and_then_inv, need_rest, done_inj}
@@ -28,7 +29,6 @@ use Rattle.samtags.proofs.BuiltSays.{joined_says}
 use Rattle.joining.proofs.Parts.{both_length}
 use Rattle.duplex.specs.Duplex.{Duplexed, strand_tags, no_tags, strands_of, restored_by, duplexed, admitted, within, lengths_of, duplex_tags}
 use Rattle.duplex.specs.declared.Lengths.{Lengths as Filled}
-use Rattle.duplex.specs.declared.Duplex.TheVariants as duplex
 use Rattle.duplex.proofs.Admitted.{passed}
 use Rattle.duplex.proofs.Pieces.{Known, known, one_or_two, seq_is}
 use Rattle.duplex.specs.PublicContracts.{Rows, lengths_lent, Duplexes}
@@ -55,7 +55,7 @@ pub restored_by_upper : (strands : List Strand) (seq : List ℕ) → upper_case 
 restored_by_upper [] seq u = u
 restored_by_upper (s ∷ ss) seq u = restored_by_upper ss (restored s.pattern s.evidence.informative seq) (restored_upper s.pattern s.evidence.informative seq u)
 
--- ---- the call answered Done
+-- ---- the call answered Ok
 
 -- a tag with a text has a group
 has_group : (gs : List Group) → 0 < length (written gs).text → is_empty gs ≡ false
@@ -65,17 +65,17 @@ has_group (g ∷ gs) l = refl
 
 module _ (count : ℕ) (mode : MethylationMode) (bases : List ℕ) (a b : Strand) (lent : Rows) where
   -- the answer, and that the checks passed
-  pub came_to : (f : Filled) (l : Rows) → Duplexes count mode bases a b lent (duplex.Done f) l
-      → (duplex_tags count mode bases a b (lengths_lent lent) ≡ done (duplexed (eqb count 2) mode bases a b))
+  pub came_to : (f : Filled) (l : Rows) → Duplexes count mode bases a b lent (Ok f) l
+      → (duplex_tags count mode bases a b (lengths_lent lent) ≡ Ok (duplexed (eqb count 2) mode bases a b))
       × (lengths_of (duplexed (eqb count 2) mode bases a b) ≡ f) × Known (eqb count 2) bases a b
   unfolding duplex_tags
   came_to f l c =
       let d = duplexed (eqb count 2) mode bases a b in
       let (x, is, sizes) = on_done_inv lengths_of (duplex_tags count mode bases a b (lengths_lent lent)) f (sym c.0) in
-      let (y, ok, fits) = and_then_inv (admitted count bases a b d) (λ d. need (within (lengths_of d) (lengths_lent lent)) 12 (done d)) x is in
+      let (y, ok, fits) = and_then_inv (admitted count bases a b d) (λ d. need (within (lengths_of d) (lengths_lent lent)) 12 (Ok d)) x is in
       let p = passed count bases a b d y ok in
-      let same : d ≡ x = p.is ∙ done_inj (need_rest (within (lengths_of y) (lengths_lent lent)) 12 (done y) x fits) in
-      (is ∙ ap done (sym same), ap lengths_of same ∙ sizes, known count bases a b d y p)
+      let same : d ≡ x = p.is ∙ done_inj (need_rest (within (lengths_of y) (lengths_lent lent)) 12 (Ok y) x fits) in
+      (is ∙ ap Ok (sym same), ap lengths_of same ∙ sizes, known count bases a b d y p)
 
   -- SEQ is as long as the bases, and upper case where they are
   seq_short : Known (eqb count 2) bases a b → length (restored_by (strands_of (eqb count 2) a b) bases) ≤ 16000
@@ -87,7 +87,7 @@ module _ (count : ℕ) (mode : MethylationMode) (bases : List ℕ) (a b : Strand
       omega (arith, long, k.first.short)
 
   -- If a call was written, the joined tag is read back over the SEQ that was written.
-  pub joined_reads_back : (f : Filled) (l : Rows) → Duplexes count mode bases a b lent (duplex.Done f) l → upper_case bases ≡ true → 0 < f.mm
+  pub joined_reads_back : (f : Filled) (l : Rows) → Duplexes count mode bases a b lent (Ok f) l → upper_case bases ≡ true → 0 < f.mm
       → let seq = take f.seq l.seq in
       (seq ≡ restored_by (strands_of (eqb count 2) a b) bases)
       × ReadsBack true seq (take f.mm l.mm) (take f.ml l.ml) (joined_listings true mode (strands_of (eqb count 2) a b) seq)
@@ -126,7 +126,7 @@ module _ (count : ℕ) (mode : MethylationMode) (bases : List ℕ) (a b : Strand
       (joined_is_accepted false mode (s ∷ []) seq lent up (omega arith) (seq_short k) group)
       (joined_says false mode seq up (s ∷ []) lent group)
 
-  pub first_reads_back : (f : Filled) (l : Rows) → Duplexes count mode bases a b lent (duplex.Done f) l → upper_case bases ≡ true → (ml : List ℕ) → 0 < f.first_mm
+  pub first_reads_back : (f : Filled) (l : Rows) → Duplexes count mode bases a b lent (Ok f) l → upper_case bases ≡ true → (ml : List ℕ) → 0 < f.first_mm
       → let seq = restored_by (strands_of (eqb count 2) a b) bases in
       ReadsBack false seq (take f.first_mm l.first_mm) ml (joined_listings false mode (a ∷ []) seq)
   unfolding duplexed
@@ -137,7 +137,7 @@ module _ (count : ℕ) (mode : MethylationMode) (bases : List ℕ) (a b : Strand
       c.6 (sym (ap (λ (n : Filled). n.first_mm) sizes)) in
       rw row (own_reads_back a k u ml (omega (arith, some, ap (λ (n : Filled). n.first_mm) sizes)))
 
-  pub second_reads_back : (f : Filled) (l : Rows) → Duplexes count mode bases a b lent (duplex.Done f) l → upper_case bases ≡ true → (ml : List ℕ) → eqb count 2 ≡ true
+  pub second_reads_back : (f : Filled) (l : Rows) → Duplexes count mode bases a b lent (Ok f) l → upper_case bases ≡ true → (ml : List ℕ) → eqb count 2 ≡ true
       → 0 < f.second_mm
       → let seq = restored_by (strands_of (eqb count 2) a b) bases in
       ReadsBack false seq (take f.second_mm l.second_mm) ml (joined_listings false mode (b ∷ []) seq)

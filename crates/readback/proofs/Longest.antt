@@ -1,6 +1,7 @@
 -- The duplex call reaches the bound on a built tag: two C to T strands that list every one of 16,000 C take 64,010 bytes of text, and with enough room the
 -- call answers so.
 -- Assumes nothing.
+use Rattle.std.specs.Prelude.{Ok}
 use mathlib.Core.Path.{◌≡◌, refl, sym, ap, ◌∙◌}
 use Prim.Native.Nat.{ℕ, zero, suc, ◌+◌, ◌*◌, ◌<◌, ◌≤◌}
 use native.Mathlib.Omega.{arith}
@@ -10,7 +11,7 @@ use lib.Dec.{leb}
 use lib.ListN.{length, length-replicate, replicate}
 use borrow.Author.Tests.{eq-eqb, le-leb}
 use Rattle.lent.specs.Filled.{leaves}
-use Rattle.lent.specs.Outcome.{done, on_done}
+use Rattle.lent.specs.Outcome.{on_done}
 use Rattle.pattern.specs.Case.{upper, same_in_any_case}
 use Rattle.pattern.specs.Patterns.{is_enabled}
 use Rattle.pattern.specs.declared.ConversionPattern.TheVariants.{CToT}
@@ -20,7 +21,6 @@ use Rattle.samtags.specs.Building.{Strand, evidence_agrees, evidence_in_domain, 
 use Rattle.samtags.proofs.Longest.{all_seen, two_strands_length}
 use Rattle.duplex.specs.Duplex.{Duplexed, admitted, duplex_tags, duplexed, lengths_of, restored_by, within}
 use Rattle.duplex.specs.declared.Lengths.{Lengths}
-use Rattle.duplex.specs.declared.Duplex.TheVariants as duplex
 use Rattle.duplex.specs.PublicContracts.{Duplexes, Rows, eleven_rows, lengths_lent}
 use Rattle.readback.proofs.Joined.{came_to}
 
@@ -37,7 +37,7 @@ abbrev pub seen_strand : ℕ → Strand
 seen_strand n = record { pattern = CToT; evidence = all_seen n }
 
 longest : (mode : MethylationMode) (n : ℕ) (lent : Rows) (f : Lengths) (l : Rows) → is_enabled mode ≡ true → 0 < n
-    → Duplexes 2 mode (replicate n 67) (seen_strand n) (seen_strand n) lent (duplex.Done f) l → (f.mm ≡ 4 * n + 10) × (f.ml ≡ 2 * n)
+    → Duplexes 2 mode (replicate n 67) (seen_strand n) (seen_strand n) lent (Ok f) l → (f.mm ≡ 4 * n + 10) × (f.ml ≡ 2 * n)
 unfolding duplexed
 longest mode n lent f l e h c =
     let s = seen_strand n in
@@ -50,10 +50,10 @@ longest mode n lent f l e h c =
     )
 
 pub longest_duplex : (mode : MethylationMode) (lent : Rows) (f : Lengths) (l : Rows) → is_enabled mode ≡ true
-    → Duplexes 2 mode (replicate 16000 67) (seen_strand 16000) (seen_strand 16000) lent (duplex.Done f) l → (f.mm ≡ 64010) × (f.ml ≡ 32000)
+    → Duplexes 2 mode (replicate 16000 67) (seen_strand 16000) (seen_strand 16000) lent (Ok f) l → (f.mm ≡ 64010) × (f.ml ≡ 32000)
 longest_duplex mode lent f l e c = longest mode 16000 lent f l e (omega arith) c
 
--- ---- and there are rows with which it answers Done: those that are just as long as their parts
+-- ---- and there are rows with which it answers Ok: those that are just as long as their parts
 
 within_itself : (l : Lengths) → within l l ≡ true
 within_itself l =
@@ -75,20 +75,20 @@ parts_of d =
 
 comes_to : (mode : MethylationMode) (n : ℕ) → n ≤ 16000
     → let d = duplexed true mode (replicate n 67) (seen_strand n) (seen_strand n) in
-    duplex_tags 2 mode (replicate n 67) (seen_strand n) (seen_strand n) (lengths_lent (parts_of d)) ≡ done d
+    duplex_tags 2 mode (replicate n 67) (seen_strand n) (seen_strand n) (lengths_lent (parts_of d)) ≡ Ok d
 unfolding duplex_tags admitted
 comes_to mode n h =
     let (short, same) = seen_passes n h in
     rw (short, same, within_itself (lengths_of (duplexed true mode (replicate n 67) (seen_strand n) (seen_strand n))))
 
 pub longest_is_met : (mode : MethylationMode) (n : ℕ) → n ≤ 16000
-    → (lent : Rows) × (f : Lengths) × (left : Rows) × Duplexes 2 mode (replicate n 67) (seen_strand n) (seen_strand n) lent (duplex.Done f) left
+    → (lent : Rows) × (f : Lengths) × (left : Rows) × Duplexes 2 mode (replicate n 67) (seen_strand n) (seen_strand n) lent (Ok f) left
 longest_is_met mode n h =
     let s = seen_strand n in
     let d = duplexed true mode (replicate n 67) s s in
     let lent = parts_of d in
     let o = duplex_tags 2 mode (replicate n 67) s s (lengths_lent lent) in
-    let is : o ≡ done d = comes_to mode n h in (
+    let is : o ≡ Ok d = comes_to mode n h in (
       lent,
       lengths_of d,
       eleven_rows

@@ -1,5 +1,6 @@
 -- The checks of a tag before its groups are read: each test by itself, in the scope's order.
 -- Assumes nothing.
+use Rattle.std.specs.Prelude.{Ok}
 use mathlib.Core.Path.{◌≡◌}
 use Prim.Native.Nat.{◌<◌, ◌≤◌, ℕ}
 use mathlib.Core.Bool.{Bool, cond}
@@ -9,7 +10,7 @@ use lib.ListN.{length}
 use borrow.Author.Tests.{le-leb, lt-leb, eqb-true}
 use Rattle.lent.proofs.Outcome.{need_rest, need_test}
 use Rattle.lent.specs.Lists.{every, last_or}
-use Rattle.lent.specs.Outcome.{Outcome, need, refuse, done}
+use Rattle.lent.specs.Outcome.{Outcome, need, refuse}
 use Rattle.samtags.proofs.Taken.{in_domain_lem, taken_fits}
 use Rattle.samtags.specs.Bytes.{is_ascii}
 use Rattle.samtags.specs.Reading.{in_domain, nowhere, read_groups, read}
@@ -39,9 +40,9 @@ pub record Passed (ml? : Bool) (seq text ml : List ℕ) (gs : List Group) : Type
   pub text_fits : length text ≤ 65536
   pub ml_fits : cond ml? (length ml) 0 ≤ 65536
   pub closed : last_or 0 text ≡ 59
-  pub groups : read_groups ml? nowhere seq (closed_by 59 text) (cond ml? ml []) ≡ done gs
+  pub groups : read_groups ml? nowhere seq (closed_by 59 text) (cond ml? ml []) ≡ Ok gs
 
-pub passed : (ml? : Bool) (seq text ml : List ℕ) (gs : List Group) → tested ml? seq text ml ≡ done gs → Passed ml? seq text ml gs
+pub passed : (ml? : Bool) (seq text ml : List ℕ) (gs : List Group) → tested ml? seq text ml ≡ Ok gs → Passed ml? seq text ml gs
 unfolding read
 passed ml? seq text ml gs e =
     let domain = in_domain_lem ml? seq text ml (need_test (in_domain ml? seq text ml) 1 _ gs e) in

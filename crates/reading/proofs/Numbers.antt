@@ -9,15 +9,13 @@ use lib.ListN.{length, take}
 use Rattle.lent.proofs.Answers.{answers, only_and_then, only_need, only_on_done}
 use Rattle.lent.specs.Answers.{Answers, refuses_only}
 use Rattle.lent.specs.Lists.{among}
-use Rattle.lent.specs.Outcome.{number_of, on_done}
+use Rattle.lent.specs.Outcome.{Outcome, number_of, on_done}
 use Rattle.samtags.proofs.Numbers.{bad_tags, good_tag, long_tag, read_tag_only, read_tag_without_ml, tally_tag_each, tally_tag_only}
 use Rattle.samtags.specs.Reading.{call_list, read_tag, tally_tag}
 use Rattle.samtags.specs.Session.{Held}
-use Rattle.reading.specs.Answers.{reading_says, tally_says}
+use Rattle.reading.specs.Answers.{tally_says}
 use Rattle.reading.specs.Calls.{CallsRead, counts_of, listed_calls, read_calls}
 use Rattle.reading.specs.PublicContracts.{ChecksTag, ReadsCalls, Tallies}
-use Rattle.reading.specs.declared.Reading.{Reading}
-use Rattle.reading.specs.declared.Tallied.{Tallied}
 
 abbrev pub check_numbers : List ℕ
 check_numbers = 1 ∷ 3 ∷ 4 ∷ 5 ∷ 6 ∷ 7 ∷ 8 ∷ 9 ∷ []
@@ -36,7 +34,7 @@ calls_numbers_without_ml = 1 ∷ 3 ∷ 4 ∷ 5 ∷ 6 ∷ 7 ∷ 12 ∷ []
 
 -- any set that has the reader's, and not 0
 module _ (ns : List ℕ) (no_zero : among ns 0 ≡ false) (ml? : Bool) (seq mm ml : List ℕ) (reader's : refuses_only ns (read_tag ml? seq mm ml) ≡ true) where
-  check_answers : (r : Reading) → ChecksTag ml? seq mm ml r → Answers ns (reading_says r)
+  check_answers : (r : Outcome (ℕ × ℕ)) → ChecksTag ml? seq mm ml r → Answers ns r
   check_answers r e = rw e (answers ns _ no_zero (only_on_done ns counts_of (read_tag ml? seq mm ml) reader's))
 
   listed_only : (groups places starts : ℕ) → among ns 12 ≡ true → refuses_only ns (listed_calls ml? seq mm ml groups places starts) ≡ true
@@ -45,31 +43,31 @@ module _ (ns : List ℕ) (no_zero : among ns 0 ≡ false) (ml? : Bool) (seq mm m
       only_and_then ns (read_tag ml? seq mm ml) _ reader's (λ ls.
       only_need ns (leb (length (call_list ls)) groups && leb (length (call_list ls)) places && leb (length (call_list ls)) starts) 12 _ twelve refl)
 
-  calls_answers : among ns 12 ≡ true → (groups places starts : List ℕ) (r : Reading) (groups' places' starts' : List ℕ)
-      → ReadsCalls ml? seq mm ml groups places starts r groups' places' starts' → Answers ns (reading_says r)
+  calls_answers : among ns 12 ≡ true → (groups places starts : List ℕ) (r : Outcome (ℕ × ℕ)) (groups' places' starts' : List ℕ)
+      → ReadsCalls ml? seq mm ml groups places starts r groups' places' starts' → Answers ns r
   unfolding read_calls
   calls_answers twelve groups places starts r groups' places' starts' e =
       let o = listed_calls ml? seq mm ml (length groups) (length places) (length starts) in
-      let is : reading_says r ≡ on_done counts_of o = ap (λ (c : CallsRead). c.answer) e in
+      let is : r ≡ on_done counts_of o = ap (λ (c : CallsRead). c.answer) e in
       rw is (answers ns _ no_zero (only_on_done ns counts_of o (listed_only (length groups) (length places) (length starts) twelve)))
 
-pub check_tag_numbers : (ml? : Bool) (seq mm ml : List ℕ) (r : Reading) → ChecksTag ml? seq mm ml r → Answers check_numbers (reading_says r)
+pub check_tag_numbers : (ml? : Bool) (seq mm ml : List ℕ) (r : Outcome (ℕ × ℕ)) → ChecksTag ml? seq mm ml r → Answers check_numbers r
 check_tag_numbers ml? seq mm ml = check_answers check_numbers refl ml? seq mm ml (read_tag_only check_numbers refl refl ml? seq mm ml)
 
-pub check_tag_numbers_without_ml : (seq mm ml : List ℕ) (r : Reading) → ChecksTag false seq mm ml r → Answers check_numbers_without_ml (reading_says r)
+pub check_tag_numbers_without_ml : (seq mm ml : List ℕ) (r : Outcome (ℕ × ℕ)) → ChecksTag false seq mm ml r → Answers check_numbers_without_ml r
 check_tag_numbers_without_ml seq mm ml =
     check_answers check_numbers_without_ml refl false seq mm ml (read_tag_without_ml check_numbers_without_ml refl refl seq mm ml)
 
-pub read_calls_numbers : (ml? : Bool) (seq mm ml groups places starts : List ℕ) (r : Reading) (groups' places' starts' : List ℕ)
-    → ReadsCalls ml? seq mm ml groups places starts r groups' places' starts' → Answers calls_numbers (reading_says r)
+pub read_calls_numbers : (ml? : Bool) (seq mm ml groups places starts : List ℕ) (r : Outcome (ℕ × ℕ)) (groups' places' starts' : List ℕ)
+    → ReadsCalls ml? seq mm ml groups places starts r groups' places' starts' → Answers calls_numbers r
 read_calls_numbers ml? seq mm ml = calls_answers calls_numbers refl ml? seq mm ml (read_tag_only calls_numbers refl refl ml? seq mm ml) refl
 
-pub read_calls_numbers_without_ml : (seq mm ml groups places starts : List ℕ) (r : Reading) (groups' places' starts' : List ℕ)
-    → ReadsCalls false seq mm ml groups places starts r groups' places' starts' → Answers calls_numbers_without_ml (reading_says r)
+pub read_calls_numbers_without_ml : (seq mm ml groups places starts : List ℕ) (r : Outcome (ℕ × ℕ)) (groups' places' starts' : List ℕ)
+    → ReadsCalls false seq mm ml groups places starts r groups' places' starts' → Answers calls_numbers_without_ml r
 read_calls_numbers_without_ml seq mm ml =
     calls_answers calls_numbers_without_ml refl false seq mm ml (read_tag_without_ml calls_numbers_without_ml refl refl seq mm ml) refl
 
-pub tally_numbers : (seq mm ml : List ℕ) (r : Tallied) → Tallies seq mm ml r → Answers check_numbers (tally_says r)
+pub tally_numbers : (seq mm ml : List ℕ) (r : Outcome (ℕ × ℕ)) → Tallies seq mm ml r → Answers check_numbers (tally_says r)
 tally_numbers seq mm ml r e = rw e (answers check_numbers _ refl (tally_tag_only check_numbers refl refl seq mm ml))
 
 -- ---- each of them

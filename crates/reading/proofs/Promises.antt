@@ -1,6 +1,7 @@
 -- The promises of the code about meaning, from its contracts. A tag that `check_tag` accepts and `read_calls` lists says what SAMtags says. A tag to which
 -- SAMtags gives a meaning is accepted with exactly its calls. `tally` counts the values of the calls.
 -- Assumes nothing.
+use Rattle.std.specs.Prelude.{Ok}
 use mathlib.Core.Path.{◌≡◌, refl, ap, sym, ◌∙◌}
 use Prim.Native.Nat.{ℕ, ◌+◌, ◌≤◌}
 use native.Mathlib.Omega.{arith}
@@ -13,7 +14,7 @@ use Rattle.lent.proofs.Filled.{leaves_done}
 use Rattle.lent.proofs.Outcome.{and_then_inv, done_inj, need_rest, on_done_inv}
 use Rattle.lent.specs.Filled.{leaves, over}
 use Rattle.lent.specs.Lists.{every}
-use Rattle.lent.specs.Outcome.{Outcome, done, on_done}
+use Rattle.lent.specs.Outcome.{Outcome, on_done}
 use Rattle.samtags.proofs.CanBeMet.{worked, worked_calls, worked_ml, worked_means}
 use Rattle.samtags.proofs.Examples.{cs}
 use Rattle.samtags.proofs.MeantIsRead.{listings_of, meant_is_accepted, none_on_u, spelled_is_meant}
@@ -25,15 +26,11 @@ use Rattle.samtags.specs.Reading.{Tally, call_list, in_domain, lists, read_tag, 
 use Rattle.samtags.specs.Samtags.{Spelled, TagMeans, is_spelling, meaning_of, piece_of, spelled}
 use Rattle.samtags.specs.Spots.{Call, Listing}
 use Rattle.samtags.specs.Text.{base_of}
-use Rattle.reading.specs.Answers.{reading_says}
 use Rattle.reading.specs.Calls.{CallsRead, counts_of, group_column, listed_calls, place_column, read_calls, start_column}
 use Rattle.reading.specs.PublicContracts.{ChecksTag, ReadsCalls, Tallies}
-use Rattle.reading.specs.declared.Reading.{Reading}
-use Rattle.reading.specs.declared.Reading.TheVariants as reading
-use Rattle.reading.specs.declared.Tallied.TheVariants as tallied
 use Rattle.reading.proofs.Rising.{call_list_rises, comes_before, rising}
 
-left : (column : List Listing → List ℕ) (o : Outcome (List Listing)) (ls : List Listing) (row : List ℕ) → o ≡ done ls
+left : (column : List Listing → List ℕ) (o : Outcome (List Listing)) (ls : List Listing) (row : List ℕ) → o ≡ Ok ls
     → leaves column o row ≡ over (column ls) row
 left column o ls row e = rw e (leaves_done column ls row)
 
@@ -42,13 +39,13 @@ left column o ls row e = rw e (leaves_done column ls row)
 -- ls are the listings of the tag: as many groups and calls as were answered, in rising order. On an upper-case SEQ with no group on U they are what
 -- SAMtags says of the text.
 pub record Accepted (ml? : Bool) (seq text ml : List ℕ) (groups calls : ℕ) (ls : List Listing) : Type 0 where
-  pub read : read_tag ml? seq text ml ≡ done ls
+  pub read : read_tag ml? seq text ml ≡ Ok ls
   pub counts : ◌≡◌ {A = ℕ × ℕ} (counts_of ls) (groups, calls)
   pub rises : rising comes_before (call_list ls) ≡ true
   pub means : upper_case seq ≡ true → no_u ls ≡ true → Read-means ml? seq text ml ls
 
 module _ (ml? : Bool) (seq text ml : List ℕ) (groups calls : ℕ) where
-  accepted : (ls : List Listing) → read_tag ml? seq text ml ≡ done ls → ◌≡◌ {A = ℕ × ℕ} (counts_of ls) (groups, calls)
+  accepted : (ls : List Listing) → read_tag ml? seq text ml ≡ Ok ls → ◌≡◌ {A = ℕ × ℕ} (counts_of ls) (groups, calls)
       → Accepted ml? seq text ml groups calls ls
   unfolding read_tag
   accepted ls e counted =
@@ -59,15 +56,15 @@ module _ (ml? : Bool) (seq text ml : List ℕ) (groups calls : ℕ) where
         means = reading_means ml? seq text ml ls (need_rest (in_domain ml? seq text ml) 1 (lists ml? seq text ml) ls e);
       }
 
-  -- `check_tag` answered Done
-  pub check_tag_means : ChecksTag ml? seq text ml (reading.Done groups calls) → (ls : List Listing) × Accepted ml? seq text ml groups calls ls
+  -- `check_tag` answered Ok
+  pub check_tag_means : ChecksTag ml? seq text ml (Ok (groups, calls)) → (ls : List Listing) × Accepted ml? seq text ml groups calls ls
   check_tag_means e =
       let i = on_done_inv counts_of (read_tag ml? seq text ml) (groups, calls) (sym e) in
       (i.0, accepted i.0 i.1 i.2)
 
-  -- `read_calls` answered Done, and left these columns
+  -- `read_calls` answered Ok, and left these columns
   pub read_calls_mean : (gs ps ss gs' ps' ss' : List ℕ)
-      → ReadsCalls ml? seq text ml gs ps ss (reading.Done groups calls) gs' ps' ss'
+      → ReadsCalls ml? seq text ml gs ps ss (Ok (groups, calls)) gs' ps' ss'
       → (ls : List Listing) × Accepted ml? seq text ml groups calls ls
       × (gs' ≡ over (group_column ls) gs) × (ps' ≡ over (place_column ls) ps) × (ss' ≡ over (start_column ls) ss)
   unfolding read_calls listed_calls
@@ -77,9 +74,9 @@ module _ (ml? : Bool) (seq text ml : List ℕ) (groups calls : ℕ) where
       let n : List Listing → ℕ = λ ls. length (call_list ls) in
       let room : List Listing → Bool = λ ls. leb (n ls) (length gs) && leb (n ls) (length ps) && leb (n ls) (length ss) in
       let j = and_then_inv (read_tag ml? seq text ml) _ i.0 i.1 in
-      let same : j.0 ≡ i.0 = done_inj (need_rest (room j.0) 12 (done j.0) i.0 j.2) in (
+      let same : j.0 ≡ i.0 = done_inj (need_rest (room j.0) 12 (Ok j.0) i.0 j.2) in (
         i.0,
-        accepted i.0 (j.1 ∙ ap done same) i.2,
+        accepted i.0 (j.1 ∙ ap Ok same) i.2,
         ap (λ (c : CallsRead). c.groups) e ∙ left group_column o i.0 gs i.1,
         ap (λ (c : CallsRead). c.places) e ∙ left place_column o i.0 ps i.1,
         ap (λ (c : CallsRead). c.starts) e ∙ left start_column o i.0 ss i.1,
@@ -91,20 +88,20 @@ module _ (ml? : Bool) (seq text ml : List ℕ) (groups calls : ℕ) where
 abbrev pub Room : List Listing → List ℕ → List ℕ → List ℕ → Type 0
 Room ls gs ps ts = (length (call_list ls) ≤ length gs) × (length (call_list ls) ≤ length ps) × (length (call_list ls) ≤ length ts)
 
--- the answer is Done with the number of groups and calls; the front of each column holds the calls, and the rest is unchanged
-abbrev pub Listed : List Listing → List ℕ → List ℕ → List ℕ → Reading → List ℕ → List ℕ → List ℕ → Type 0
+-- the answer is Ok with the number of groups and calls; the front of each column holds the calls, and the rest is unchanged
+abbrev pub Listed : List Listing → List ℕ → List ℕ → List ℕ → Outcome (ℕ × ℕ) → List ℕ → List ℕ → List ℕ → Type 0
 Listed ls gs ps ts r gs' ps' ts' =
-    (reading_says r ≡ done (counts_of ls)) × (gs' ≡ over (group_column ls) gs) × (ps' ≡ over (place_column ls) ps) × (ts' ≡ over (start_column ls) ts)
+    (r ≡ Ok (counts_of ls)) × (gs' ≡ over (group_column ls) gs) × (ps' ≡ over (place_column ls) ps) × (ts' ≡ over (start_column ls) ts)
 
--- `read_calls` answers Done on a tag that is read, whenever its columns have room
-pub read_calls_with_room : (ml? : Bool) (seq text ml : List ℕ) (ls : List Listing) → read_tag ml? seq text ml ≡ done ls
-    → (gs ps ts : List ℕ) → Room ls gs ps ts → (r : Reading) (gs' ps' ts' : List ℕ) → ReadsCalls ml? seq text ml gs ps ts r gs' ps' ts'
+-- `read_calls` answers Ok on a tag that is read, whenever its columns have room
+pub read_calls_with_room : (ml? : Bool) (seq text ml : List ℕ) (ls : List Listing) → read_tag ml? seq text ml ≡ Ok ls
+    → (gs ps ts : List ℕ) → Room ls gs ps ts → (r : Outcome (ℕ × ℕ)) (gs' ps' ts' : List ℕ) → ReadsCalls ml? seq text ml gs ps ts r gs' ps' ts'
     → Listed ls gs ps ts r gs' ps' ts'
 unfolding read_calls listed_calls
 read_calls_with_room ml? seq text ml ls read gs ps ts room r gs' ps' ts' e =
     let n = length (call_list ls) in
     let o = listed_calls ml? seq text ml (length gs) (length ps) (length ts) in
-    let is : o ≡ done ls = rw (read, le-leb n (length gs) room.0, le-leb n (length ps) room.1, le-leb n (length ts) room.2) in (
+    let is : o ≡ Ok ls = rw (read, le-leb n (length gs) room.0, le-leb n (length ps) room.1, le-leb n (length ts) room.2) in (
       ap (λ (c : CallsRead). c.answer) e ∙ ap (on_done counts_of) is,
       ap (λ (c : CallsRead). c.groups) e ∙ left group_column o ls gs is,
       ap (λ (c : CallsRead). c.places) e ∙ left place_column o ls ps is,
@@ -114,11 +111,11 @@ read_calls_with_room ml? seq text ml ls read gs ps ts room r gs' ps' ts' e =
 -- ---- a tag that SAMtags gives a meaning
 
 -- For a tag spelled as SAMtags says, with no group on U and within the domain, `check_tag` answers with the number of its groups and of the calls it means.
-pub check_tag_accepts : (ml? : Bool) (seq : List ℕ) (s : Spelled) (ss : List Spelled) (ml : List ℕ) (css : List (List Call)) (r : Reading)
+pub check_tag_accepts : (ml? : Bool) (seq : List ℕ) (s : Spelled) (ss : List Spelled) (ml : List ℕ) (css : List (List Call)) (r : Outcome (ℕ × ℕ))
     → every is_spelling (s ∷ ss) ≡ true → none_on_u (s ∷ ss) ≡ true → upper_case seq ≡ true
     → TagMeans seq (cond ml? ml []) (map (meaning_of ml?) (s ∷ ss)) css → in_domain ml? seq (spelled (map piece_of (s ∷ ss))) ml ≡ true
     → ChecksTag ml? seq (spelled (map piece_of (s ∷ ss))) ml r
-    → reading_says r ≡ done (counts_of (listings_of (s ∷ ss) css))
+    → r ≡ Ok (counts_of (listings_of (s ∷ ss) css))
 check_tag_accepts ml? seq s ss ml css r ok none upper means within e =
     e ∙ ap (on_done counts_of) (meant_is_accepted ml? seq s ss ml css ok none upper means within)
 
@@ -126,7 +123,7 @@ check_tag_accepts ml? seq s ss ml css r ok none upper means within e =
 pub read_calls_lists : (ml? : Bool) (seq : List ℕ) (s : Spelled) (ss : List Spelled) (ml : List ℕ) (css : List (List Call))
     → every is_spelling (s ∷ ss) ≡ true → none_on_u (s ∷ ss) ≡ true → upper_case seq ≡ true
     → TagMeans seq (cond ml? ml []) (map (meaning_of ml?) (s ∷ ss)) css → in_domain ml? seq (spelled (map piece_of (s ∷ ss))) ml ≡ true
-    → (gs ps ts : List ℕ) → Room (listings_of (s ∷ ss) css) gs ps ts → (r : Reading) (gs' ps' ts' : List ℕ)
+    → (gs ps ts : List ℕ) → Room (listings_of (s ∷ ss) css) gs ps ts → (r : Outcome (ℕ × ℕ)) (gs' ps' ts' : List ℕ)
     → ReadsCalls ml? seq (spelled (map piece_of (s ∷ ss))) ml gs ps ts r gs' ps' ts'
     → Listed (listings_of (s ∷ ss) css) gs ps ts r gs' ps' ts'
 read_calls_lists ml? seq s ss ml css ok none upper means within =
@@ -136,12 +133,12 @@ read_calls_lists ml? seq s ss ml css ok none upper means within =
 -- ---- and a tag so spelled that is accepted has that meaning, where codes count as SAMtags says
 
 module _ (ml? : Bool) (seq : List ℕ) (ss : List Spelled) (ml : List ℕ) (spelt : every is_spelling ss ≡ true) (none : none_on_u ss ≡ true) (upper : upper_case seq ≡ true) where
-  is_meant : (ls : List Listing) → read_tag ml? seq (spelled (map piece_of ss)) ml ≡ done ls
+  is_meant : (ls : List Listing) → read_tag ml? seq (spelled (map piece_of ss)) ml ≡ Ok ls
       → (ls ≡ listings_of ss (calls_of ls)) × TagMeans seq (cond ml? ml []) (map (meaning_of ml?) ss) (calls_of ls)
   unfolding read_tag
   is_meant ls e = spelled_is_meant ml? seq ss ml ls spelt none upper (need_rest (in_domain ml? seq (spelled (map piece_of ss)) ml) 1 _ ls e)
 
-  pub check_tag_is_meant : (groups calls : ℕ) → ChecksTag ml? seq (spelled (map piece_of ss)) ml (reading.Done groups calls)
+  pub check_tag_is_meant : (groups calls : ℕ) → ChecksTag ml? seq (spelled (map piece_of ss)) ml (Ok (groups, calls))
       → (css : List (List Call)) × TagMeans seq (cond ml? ml []) (map (meaning_of ml?) ss) css
       × (◌≡◌ {A = ℕ × ℕ} (counts_of (listings_of ss css)) (groups, calls))
   check_tag_is_meant groups calls e =
@@ -150,7 +147,7 @@ module _ (ml? : Bool) (seq : List ℕ) (ss : List Spelled) (ml : List ℕ) (spel
       (calls_of ls, m.1, ap counts_of (sym m.0) ∙ acc.counts)
 
   pub read_calls_is_meant : (groups calls : ℕ) (gs ps ts gs' ps' ts' : List ℕ)
-      → ReadsCalls ml? seq (spelled (map piece_of ss)) ml gs ps ts (reading.Done groups calls) gs' ps' ts'
+      → ReadsCalls ml? seq (spelled (map piece_of ss)) ml gs ps ts (Ok (groups, calls)) gs' ps' ts'
       → (css : List (List Call)) × TagMeans seq (cond ml? ml []) (map (meaning_of ml?) ss) css
       × (◌≡◌ {A = ℕ × ℕ} (counts_of (listings_of ss css)) (groups, calls))
       × (gs' ≡ over (group_column (listings_of ss css)) gs) × (ps' ≡ over (place_column (listings_of ss css)) ps)
@@ -168,9 +165,9 @@ module _ (ml? : Bool) (seq : List ℕ) (ss : List Spelled) (ml : List ℕ) (spel
 
 -- ---- the tally
 
--- `tally` answered Done: its numbers are a fold over the calls that are read, and no value is invented
-pub tally_means : (seq text ml : List ℕ) (above below : ℕ) → Tallies seq text ml (tallied.Done above below)
-    → (ls : List Listing) × (read_tag true seq text ml ≡ done ls)
+-- `tally` answered Ok: its numbers are a fold over the calls that are read, and no value is invented
+pub tally_means : (seq text ml : List ℕ) (above below : ℕ) → Tallies seq text ml (Ok (above, below))
+    → (ls : List Listing) × (read_tag true seq text ml ≡ Ok ls)
     × (◌≡◌ {A = Tally} (record { above = above; below = below }) (tally_calls (all_calls ls))) × (above + below ≡ length ml)
 unfolding tally_tag read_tag
 tally_means seq text ml above below e =
@@ -189,14 +186,14 @@ abbrev fours : List ℕ
 fours = 4 ∷ 4 ∷ 4 ∷ 4 ∷ []
 
 -- whatever `read_calls` answers and leaves in columns of four 4s
-pub worked_calls_lem : (r : Reading) (gs' ps' ts' : List ℕ) → ReadsCalls true cs (ascii "C+m,5,12,0;") worked_ml fours fours fours r gs' ps' ts'
-    → (reading_says r ≡ done (1, 3)) × (gs' ≡ 1 ∷ 1 ∷ 1 ∷ 4 ∷ []) × (ps' ≡ 5 ∷ 18 ∷ 19 ∷ 4 ∷ []) × (ts' ≡ 0 ∷ 1 ∷ 2 ∷ 4 ∷ [])
+pub worked_calls_lem : (r : Outcome (ℕ × ℕ)) (gs' ps' ts' : List ℕ) → ReadsCalls true cs (ascii "C+m,5,12,0;") worked_ml fours fours fours r gs' ps' ts'
+    → (r ≡ Ok (1, 3)) × (gs' ≡ 1 ∷ 1 ∷ 1 ∷ 4 ∷ []) × (ps' ≡ 5 ∷ 18 ∷ 19 ∷ 4 ∷ []) × (ts' ≡ 0 ∷ 1 ∷ 2 ∷ 4 ∷ [])
 unfolding is_spelling base_of call_list over
 worked_calls_lem r gs' ps' ts' e =
     read_calls_lists true cs worked [] worked_ml (worked_calls ∷ []) refl refl refl worked_means refl fours fours fours
     (omega arith, omega arith, omega arith) r gs' ps' ts' e
 
-worked_checked : ChecksTag true cs (ascii "C+m,5,12,0;") worked_ml (reading.Done 1 3)
+worked_checked : ChecksTag true cs (ascii "C+m,5,12,0;") worked_ml (Ok (1, 3))
 unfolding read_tag call_list
 worked_checked = refl
 

@@ -1,5 +1,6 @@
 -- The call list rises strictly: by group, and within a group by place. So no call is in it twice, and a call can be searched for.
 -- Assumes nothing.
+use Rattle.std.specs.Prelude.{Ok}
 use mathlib.Core.Path.{◌≡◌, refl}
 use Prim.Native.Nat.{◌+◌, ◌<◌, suc, ℕ}
 use native.Mathlib.Omega.{arith}
@@ -12,7 +13,6 @@ use Rattle.lent.proofs.Lists.{every_append}
 use Rattle.lent.proofs.Outcome.{and_then_inv, done_inj, need_rest}
 use Rattle.lent.proofs.Tests.{and_true, and_true_l, and_true_r, by-test}
 use Rattle.lent.specs.Lists.{every}
-use Rattle.lent.specs.Outcome.{done}
 use Rattle.samtags.proofs.Read.{GroupsRead, a_group_lem, no_group_lem, spots_at, tag_read}
 use Rattle.samtags.specs.Bytes.{comma}
 use Rattle.samtags.specs.Reading.{Row, call_list, in_domain, lists, nowhere, read, read_tag, rows_from, rows_of, values_in}
@@ -120,7 +120,7 @@ groups_rise {seq = seq} (a_group_lem {g = g} {ss = ss} {rest = rest} long spots 
     (calls_rise ss (rw (spots_at spots) (tracked_rises (base_of (up_to comma g)) seq)))
     (groups_rise more)
 
-pub call_list_rises : (ml? : Bool) (seq text ml : List ℕ) (ls : List Listing) → read_tag ml? seq text ml ≡ done ls → rising comes_before (call_list ls) ≡ true
+pub call_list_rises : (ml? : Bool) (seq text ml : List ℕ) (ls : List Listing) → read_tag ml? seq text ml ≡ Ok ls → rising comes_before (call_list ls) ≡ true
 unfolding read_tag lists call_list
 call_list_rises ml? seq text ml ls e =
     let i = and_then_inv (read ml? nowhere seq text ml) _ ls (need_rest (in_domain ml? seq text ml) 1 _ ls e) in

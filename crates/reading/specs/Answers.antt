@@ -1,19 +1,10 @@
--- The cases of each answer as outcomes: done with the result, or the refusal.
+-- The tally's answer, a pair, as the record that the tally is.
 -- Assumes nothing.
-use Rattle.std.specs.Prelude.{ℕ}
-use Rattle.lent.specs.Outcome.{Outcome, refused, done}
+use Rattle.std.specs.Prelude.{ℕ, Ok, Err}
+use Rattle.lent.specs.Outcome.{Outcome}
 use Rattle.samtags.specs.Reading.{Tally}
-use Rattle.reading.specs.declared.Reading.{Reading}
-use Rattle.reading.specs.declared.Reading.TheVariants as reading
-use Rattle.reading.specs.declared.Tallied.{Tallied}
-use Rattle.reading.specs.declared.Tallied.TheVariants as tallied
-
--- how many groups and how many calls
-abbrev pub reading_says : Reading → Outcome (ℕ × ℕ)
-reading_says (reading.Done groups calls) = done (groups, calls)
-reading_says (reading.Refused r) = refused r
 
 -- how many values are above and how many below
-abbrev pub tally_says : Tallied → Outcome Tally
-tally_says (tallied.Done above below) = done (record { above = above; below = below })
-tally_says (tallied.Refused r) = refused r
+abbrev pub tally_says : Outcome (ℕ × ℕ) → Outcome Tally
+tally_says (Ok (above, below)) = Ok (record { above = above; below = below })
+tally_says (Err r) = Err r

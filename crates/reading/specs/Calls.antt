@@ -1,7 +1,7 @@
 -- The call reader as a public call: its outcome, its answer, and the three columns after the call.
 -- Assumes nothing.
-use Rattle.std.specs.Prelude.{ℕ, Bool, ◌&&◌, List, map, length, leb}
-use Rattle.lent.specs.Outcome.{Outcome, done, need, and_then, on_done}
+use Rattle.std.specs.Prelude.{ℕ, Bool, ◌&&◌, List, map, length, leb, Ok}
+use Rattle.lent.specs.Outcome.{Outcome, need, and_then, on_done}
 use Rattle.lent.specs.Filled.{leaves}
 use Rattle.samtags.specs.Spots.{Listing}
 use Rattle.samtags.specs.Reading.{Row, call_list, read_tag}
@@ -25,7 +25,7 @@ unfoldable pub listed_calls : Bool → List ℕ → List ℕ → List ℕ → �
 unfolding read_tag
 listed_calls ml? seq text ml groups places starts =
     and_then (read_tag ml? seq text ml) (λ ls.
-    need (leb (length (call_list ls)) groups && leb (length (call_list ls)) places && leb (length (call_list ls)) starts) 12 (done ls))
+    need (leb (length (call_list ls)) groups && leb (length (call_list ls)) places && leb (length (call_list ls)) starts) 12 (Ok ls))
 
 -- the answer of the call reader, and the columns after the call
 pub record CallsRead : Type 0 where

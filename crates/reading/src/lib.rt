@@ -12,24 +12,10 @@ ghost use Rattle.reading.specs.PublicContracts.{ChecksTag, ReadsCalls, Tallies};
 ghost use Rattle.reading.specs.Measured.{TagMeasured};
 
 use lent::Refusal;
-use measuring::Counted;
-
-// A tag that was read, with its number of groups and of calls, or why it was refused.
-#[derive(Clone, Copy)]
-pub enum Reading {
-    Done(usize, usize),
-    Refused(Refusal),
-}
-
-// How many values of a tag's ML are above (128 or more) and how many below, or why the tag was refused.
-#[derive(Clone, Copy)]
-pub enum Tallied {
-    Done(usize, usize),
-    Refused(Refusal),
-}
+use measuring::Count;
 
 // The first walk, which needs no places: every refusal except for too little room, and the length of the list.
-fn measure(seq: &[u8], mm: &[u8], ml: &[u8], has_ml: bool) -> Counted
+fn measure(seq: &[u8], mm: &[u8], ml: &[u8], has_ml: bool) -> Result<Count, Refusal>
     ensures { TagMeasured
         (need
         (in_domain has_ml seq.now mm.now ml.now)
@@ -39,31 +25,32 @@ fn measure(seq: &[u8], mm: &[u8], ml: &[u8], has_ml: bool) -> Counted
 {
     let taken = scanning::values_taken(ml.len(), has_ml);
     if 16000 < seq.len() {
-        return Counted::Refused(Refusal(1));
+        return Err(Refusal::TooLong);
     }
     if 65536 < mm.len() {
-        return Counted::Refused(Refusal(1));
+        return Err(Refusal::TooLong);
     }
     if 65536 < taken {
-        return Counted::Refused(Refusal(1));
+        return Err(Refusal::TooLong);
     }
-    measuring::count_tag(seq, mm, &ml[0..taken], has_ml, false)
+    // No call is marked, so the walk needs no places.
+    let Some(count) = measuring::count_tag(seq, mm, &ml[0..taken], has_ml, false)? else {
+        unreachable!();
+    };
+    Ok(count)
 }
 
-// Reads a tag and answers without a list: how many groups and calls it has.
-pub fn check_tag(seq: &[u8], mm: &[u8], ml: &[u8], has_ml: bool) -> Reading
+// Reads a tag and answers without a list: Ok with the numbers of its groups and calls.
+pub fn check_tag(seq: &[u8], mm: &[u8], ml: &[u8], has_ml: bool) -> Result<(usize, usize), Refusal>
     ensures { ChecksTag has_ml seq.now mm.now ml.now result }
 {
-    let measured = measure(seq, mm, ml, has_ml);
-    let Counted::To(end) = measured else {
-        return Reading::Refused(measured.refusal());
-    };
-    Reading::Done(end.group, end.calls)
+    let end = measure(seq, mm, ml, has_ml)?;
+    Ok((end.group, end.calls))
 }
 
 // Writes the calls of a tag, in order, into three lent columns: the group's number counted from 1, the place in SEQ, and the index of the call's
-// first value in ML (0 without ML). Answers how many groups and calls there are; the calls fill the front of each column. 12 if a column is shorter
-// than the list. With any refusal the columns are unchanged.
+// first value in ML (0 without ML). Ok with the numbers of groups and calls; the calls fill the front of each column. Err with 12 if a column is
+// shorter than the list. With any Err the columns are unchanged.
 pub fn read_calls(
     seq: &[u8],
     mm: &[u8],
@@ -72,7 +59,7 @@ pub fn read_calls(
     groups: &mut [u32],
     places: &mut [u32],
     starts: &mut [u32],
-) -> Reading
+) -> Result<(usize, usize), Refusal>
     ensures { ReadsCalls
         has_ml
         seq.now
@@ -86,23 +73,21 @@ pub fn read_calls(
         places.new
         starts.new }
 {
-    let measured = measure(seq, mm, ml, has_ml);
-    let Counted::To(end) = measured else {
-        return Reading::Refused(measured.refusal());
-    };
+    let end = measure(seq, mm, ml, has_ml)?;
     let calls = end.calls;
     if groups.len() < calls {
-        return Reading::Refused(Refusal(12));
+        return Err(Refusal::NoRoom);
     }
     if places.len() < calls {
-        return Reading::Refused(Refusal(12));
+        return Err(Refusal::NoRoom);
     }
     if starts.len() < calls {
-        return Reading::Refused(Refusal(12));
+        return Err(Refusal::NoRoom);
     }
     let taken = scanning::values_taken(ml.len(), has_ml);
-    scanning::scan_groups(seq, mm, &ml[0..taken], has_ml, groups, places, starts);
-    Reading::Done(end.group, calls)
+    // What refuses a tag was found by the first walk.
+    let _ = scanning::scan_groups(seq, mm, &ml[0..taken], has_ml, groups, places, starts);
+    Ok((end.group, calls))
 }
 
 // How many of the values are above.
@@ -110,24 +95,19 @@ fn count_above(ml: &[u8]) -> usize
     ensures { result ≡ length (filter is_above ml.now) }
 {
     let mut above: usize = 0;
-    let mut i = 0;
-    while i < ml.len() {
-        if 128 <= ml[i] {
+    for &v in ml {
+        if 128 <= v {
             above += 1;
         }
-        i += 1;
     }
     above
 }
 
-// How many of a tag's ML values are above (128 or more) and how many below; each value counts once. It always takes an ML.
-pub fn tally(seq: &[u8], mm: &[u8], ml: &[u8]) -> Tallied
+// Ok with how many of a tag's ML values are above (128 or more) and how many below; each value counts once. It always takes an ML.
+pub fn tally(seq: &[u8], mm: &[u8], ml: &[u8]) -> Result<(usize, usize), Refusal>
     ensures { Tallies seq.now mm.now ml.now result }
 {
-    let measured = measure(seq, mm, ml, true);
-    let Counted::To(_) = measured else {
-        return Tallied::Refused(measured.refusal());
-    };
+    measure(seq, mm, ml, true)?;
     let above = count_above(ml);
-    Tallied::Done(above, ml.len() - above)
+    Ok((above, ml.len() - above))
 }

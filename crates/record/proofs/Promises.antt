@@ -1,11 +1,11 @@
--- The promises of the code about records, from its contracts: a call that answered Done with the length n and w, whether a field went, has written the new
+-- The promises of the code about records, from its contracts: a call that answered Ok with the length n and w, whether a field went, has written the new
 -- record to the front of the row.
 -- Assumes nothing.
+use Rattle.std.specs.Prelude.{Ok, Some, Option}
 use mathlib.Core.Path.{◌≡◌, ◌∙◌, ap, subst, sym}
 use Prim.Native.Nat.{ℕ}
 use mathlib.Core.Bool.{Bool, false, true}
 use mathlib.Core.List.{List}
-use mathlib.Core.Option.{some}
 use lib.ListN.{length, take}
 use Rattle.lent.specs.Answers.{is_done}
 use Rattle.lent.specs.Lists.{any, is_empty}
@@ -20,11 +20,8 @@ use Rattle.record_says.proofs.Went.{went_is_gone}
 use Rattle.record_says.specs.Says.{Remade, Rewritten, Untouched, begins_at, cut, dropped, fields_in, five_names, is_gone, keeps, masked, mm_of, none_twice, read_places, read_seq, stored_seq, tail}
 use Rattle.record_tags.specs.Records.{Finished}
 use Rattle.record_tags.specs.Values.{is_text}
-use Rattle.record_writing.specs.declared.whole.Recorded.TheVariants.{Done}
 use Rattle.record.proofs.Made.{Made, cut_made, drop_made, mask_made}
 use Rattle.record.specs.PublicContracts.{CutsRecord, DropsRecord, MasksRecord}
-use Rattle.rewriting.specs.Starts.{start_says}
-use Rattle.rewriting.specs.declared.WindowStart.{WindowStart}
 use Rattle.samtags.proofs.Kept.{calls_held_in, without_calls_at}
 use Rattle.samtags.proofs.Masking.{differs_by_n, unmasked_calls}
 use Rattle.samtags.specs.Edits.{same_bytes_of}
@@ -45,30 +42,30 @@ kept {bam} {o} {n} {w} {out'} {r} m again whole parses =
 module _ (bam out out' : List ℕ) (n : ℕ) (w : Bool) where
   -- ---- every call
 
-  pub mask_keeps_the_rest : (before : List ℕ) → MasksRecord bam before out (Done n w) out' → Kept bam (take n out') w
+  pub mask_keeps_the_rest : (before : List ℕ) → MasksRecord bam before out (Ok (n, w)) out' → Kept bam (take n out') w
   mask_keeps_the_rest before h =
       let (r, m) = mask_made bam out out' n w before h in
       let p = parse.mask_parses bam before (length out) r m.came in
       kept m (masked before (length out) m.came) p.whole (ap is_done p.parsed)
 
-  pub drop_keeps_the_rest : (places : List ℕ) → DropsRecord bam places out (Done n w) out' → Kept bam (take n out') w
+  pub drop_keeps_the_rest : (places : List ℕ) → DropsRecord bam places out (Ok (n, w)) out' → Kept bam (take n out') w
   drop_keeps_the_rest places h =
       let (r, m) = drop_made bam out out' n w places h in
       let p = parse.drop_parses bam places (length out) r m.came in
       kept m (dropped places (length out) m.came) p.whole (ap is_done p.parsed)
 
-  pub cut_keeps_the_rest : (before : List ℕ) (before-reverse : Bool) (start : WindowStart) → CutsRecord bam before before-reverse start out (Done n w) out'
+  pub cut_keeps_the_rest : (before : List ℕ) (before-reverse : Bool) (start : Option ℕ) → CutsRecord bam before before-reverse start out (Ok (n, w)) out'
       → Kept bam (take n out') w
   cut_keeps_the_rest before before-reverse start h =
       let (r, m) = cut_made bam out out' n w before before-reverse start h in
-      let p = parse.cut_parses bam before before-reverse (start_says start) (length out) r m.came in
-      kept m (cut before before-reverse (start_says start) (length out) m.came) p.whole (ap is_done p.parsed)
+      let p = parse.cut_parses bam before before-reverse start (length out) r m.came in
+      kept m (cut before before-reverse start (length out) m.came) p.whole (ap is_done p.parsed)
 
   -- ---- a tag that was edited: MM is a text, and stayed. The reader accepted it over SEQ as it was, and accepts what it became over SEQ as it is now; it lists
   -- what it listed, without the calls that went.
 
   module _ (text : is_text (mm_of bam) ≡ true) (stays : keeps MM bam (take n out') ≡ true) where
-    pub drop_accepted : (places : List ℕ) → DropsRecord bam places out (Done n w) out' → is_empty places ≡ false
+    pub drop_accepted : (places : List ℕ) → DropsRecord bam places out (Ok (n, w)) out' → is_empty places ≡ false
         → Rewritten (read_seq bam) bam (take n out') (without_calls_at (read_places bam places))
     drop_accepted places h some-place =
         let (r, m) = drop_made bam out out' n w places h in
@@ -76,7 +73,7 @@ module _ (bam out out' : List ℕ) (n : ℕ) (w : Bool) where
         subst (λ (new : List ℕ). Rewritten (read_seq bam) bam new (without_calls_at (read_places bam places))) (sym same)
         (says.drop_accepted bam places (length out) r m.came text (subst (λ (new : List ℕ). keeps MM bam new ≡ true) same stays) some-place)
 
-    pub mask_accepted : (before : List ℕ) → MasksRecord bam before out (Done n w) out' → same_bytes_of before (stored_seq bam) ≡ false
+    pub mask_accepted : (before : List ℕ) → MasksRecord bam before out (Ok (n, w)) out' → same_bytes_of before (stored_seq bam) ≡ false
         → differs_by_n (turned_letters (is_reverse bam) before) (read_seq bam) ≡ true
         → Rewritten (turned_letters (is_reverse bam) before) bam (take n out') (unmasked_calls (read_seq bam))
     mask_accepted before h differs only-n =
@@ -85,13 +82,13 @@ module _ (bam out out' : List ℕ) (n : ℕ) (w : Bool) where
         subst (λ (new : List ℕ). Rewritten (turned_letters (is_reverse bam) before) bam new (unmasked_calls (read_seq bam))) (sym same)
         (says.mask_accepted bam before (length out) r m.came text (subst (λ (new : List ℕ). keeps MM bam new ≡ true) same stays) differs only-n)
 
-    pub cut_accepted : (before : List ℕ) (before-reverse : Bool) (start : WindowStart) → CutsRecord bam before before-reverse start out (Done n w) out'
+    pub cut_accepted : (before : List ℕ) (before-reverse : Bool) (start : Option ℕ) → CutsRecord bam before before-reverse start out (Ok (n, w)) out'
         → same_bytes_of (turned_letters before-reverse before) (read_seq bam) ≡ false
-        → (lo : ℕ) × (begins_at bam before before-reverse (start_says start) ≡ some lo)
+        → (lo : ℕ) × (begins_at bam before before-reverse start ≡ Some lo)
         × Rewritten (turned_letters before-reverse before) bam (take n out') (calls_held_in lo (read_seq bam))
     cut_accepted before before-reverse start h differs =
         let (r, m) = cut_made bam out out' n w before before-reverse start h in
         let same = m.bytes in
         let (lo, begins, now) =
-        says.cut_accepted bam before before-reverse (start_says start) (length out) r m.came text (subst (λ (new : List ℕ). keeps MM bam new ≡ true) same stays) differs in
+        says.cut_accepted bam before before-reverse start (length out) r m.came text (subst (λ (new : List ℕ). keeps MM bam new ≡ true) same stays) differs in
         (lo, begins, subst (λ (new : List ℕ). Rewritten (turned_letters before-reverse before) bam new (calls_held_in lo (read_seq bam))) (sym same) now)

@@ -1,23 +1,22 @@
 -- What the proofs of the three calls share: a refusal, the tests of an opened record, and the rows that are long enough.
 -- Assumes nothing.
+use Rattle.std.specs.Prelude.{Ok, Err, Option}
 use mathlib.Core.Path.{◌≡◌, refl, sym, ap, ◌∙◌}
 use Prim.Native.Nat.{ℕ, ◌+◌, ◌≤◌}
 use native.Mathlib.Omega.{arith}
 use mathlib.Core.Bool.{Bool, true, ◌&&◌}
 use mathlib.Core.List.{List, [], ◌∷◌}
-use mathlib.Core.Option.{Option}
 use lib.Dec.{eqb, leb}
 use lib.ListN.{length, get_or, drop}
 use borrow.Author.Tests.{leb-true, ne_eqb}
 use Rattle.lent.proofs.Tests.{and_true_l, and_true_r}
 use Rattle.lent.specs.Filled.{leaves}
 use Rattle.lent.specs.Lists.{is_empty}
-use Rattle.lent.specs.Outcome.{Outcome, refused}
+use Rattle.lent.specs.Outcome.{Outcome}
 use Rattle.lent.specs.declared.Refusal.{Refusal}
 use Rattle.record_fates.proofs.FateLaws.{opened_inside}
 use Rattle.record_fates.proofs.OpeningLaws.{spots_sound}
 use Rattle.record_fates.specs.Fates.{OpenedAs, is_sound}
-use Rattle.record_fates.specs.declared.Opened.TheVariants.{To}
 use Rattle.record_fields.specs.Bam.{head_size, is_reverse, packed_seq, seq_length}
 use Rattle.record_fields.specs.Fields.{Field, MN, fields_of, first_named}
 use Rattle.record_fields.specs.Spots.{part}
@@ -28,26 +27,26 @@ use Rattle.record_writing.specs.Answers.{leaves_record, left}
 
 -- ---- a refusal
 
-pub left_alone : (o : Outcome Finished) (out : List ℕ) (r : Refusal) → o ≡ refused r → left (refused r) out ≡ leaves_record o out
+pub left_alone : (o : Outcome Finished) (out : List ℕ) (r : Refusal) → o ≡ Err r → left (Err r) out ≡ leaves_record o out
 unfolding leaves_record leaves
 left_alone o out r e = rw e
 
-module _ (bam : List ℕ) (k room : ℕ) (r : Refusal) (h : (room : ℕ) (new : List Field → List Field) → remade bam k room new ≡ refused r) where
-  pub mask_refused : (before : List ℕ) → k ≡ length before → mask_record bam before room ≡ refused r
+module _ (bam : List ℕ) (k room : ℕ) (r : Refusal) (h : (room : ℕ) (new : List Field → List Field) → remade bam k room new ≡ Err r) where
+  pub mask_refused : (before : List ℕ) → k ≡ length before → mask_record bam before room ≡ Err r
   unfolding mask_record
   mask_refused before e = ap (λ (j : ℕ). remade bam j room (mask_fields (is_reverse bam) (seq_length bam) (packed_seq bam) before)) (sym e) ∙ h room (mask_fields (is_reverse bam) (seq_length bam) (packed_seq bam) before)
 
-  pub drop_refused : (places : List ℕ) → k ≡ 0 → drop_record bam places room ≡ refused r
+  pub drop_refused : (places : List ℕ) → k ≡ 0 → drop_record bam places room ≡ Err r
   unfolding drop_record
   drop_refused places e = ap (λ (j : ℕ). remade bam j room (drop_fields (is_reverse bam) (seq_length bam) (packed_seq bam) places)) (sym e) ∙ h room (drop_fields (is_reverse bam) (seq_length bam) (packed_seq bam) places)
 
-  pub cut_refused : (before : List ℕ) (before-reverse : Bool) (start : Option ℕ) → k ≡ length before → cut_record bam before before-reverse start room ≡ refused r
+  pub cut_refused : (before : List ℕ) (before-reverse : Bool) (start : Option ℕ) → k ≡ length before → cut_record bam before before-reverse start room ≡ Err r
   unfolding cut_record
   cut_refused before before-reverse start e = ap (λ (j : ℕ). remade bam j room (cut_fields (is_reverse bam) (seq_length bam) (packed_seq bam) before before-reverse start)) (sym e) ∙ h room (cut_fields (is_reverse bam) (seq_length bam) (packed_seq bam) before before-reverse start)
 
 -- ---- an opened record
 
-module _ (bam : List ℕ) (k : ℕ) (ats sizes : List ℕ) (h : Head) (o : OpenedAs bam k ats sizes (To h)) where
+module _ (bam : List ℕ) (k : ℕ) (ats sizes : List ℕ) (h : Head) (o : OpenedAs bam k ats sizes (Ok h)) where
   abbrev fs : List Field
   fs = fields_of (drop (head_size bam) bam)
 

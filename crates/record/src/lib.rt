@@ -1,8 +1,8 @@
 // Keeps the tags MM, ML, MN, am and bm of a BAM record in step with its SEQ: after SEQ was masked or cut, or without the calls at some places. Each call
 // takes one record (SAM v1, without its block size) and writes the new one into a lent row; the rest of the row stays as it was. No public function has
-// a `requires`.
+// a `requires`. Each answers Ok with the new record's length and whether a field went.
 //
-// 14 if the record is shorter than its head says, 15 if its optional fields do not parse, 1 if a length is past the domain, last 12 if the new record is
+// Err with 14 if the record is shorter than its head says, 15 if its optional fields do not parse, 1 if a length is past the domain, last 12 if the new record is
 // longer than the row. With a refusal the row is unchanged. What is none of the five fields stays as it came, byte for byte, and an edited field stays where
 // it stood. If a name is there twice, its first field counts.
 //
@@ -10,21 +10,20 @@
 // of 1,024 if both SEQs have at most 1,024 bases.
 #![tactic(auto)]
 
-ghost use Rattle.std.specs.Prelude.{◌≡◌, ◌&&◌, false, true, eqb, leb, drop, length};
+ghost use Rattle.std.specs.Prelude.{◌≡◌, ◌&&◌, false, true, eqb, leb, drop, length, Ok};
 ghost use Rattle.lent.specs.Lists.{is_empty};
 ghost use Rattle.record_fates.specs.Fates.{OpenedAs};
-ghost use Rattle.record_fates.specs.declared.Opened.TheVariants.{To};
 ghost use Rattle.record_fields.specs.Bam.{head_size, seq_length};
 ghost use Rattle.record_fields.specs.Fields.{MN, fields_of, first_named};
 ghost use Rattle.record_tags.specs.Changes.{is_tagged};
 ghost use Rattle.record_tags.specs.Values.{disagrees};
 ghost use Rattle.record.specs.PublicContracts.{CutsRecord, DropsRecord, MasksRecord};
 
+use lent::Refusal;
 use record_edits::remove_record;
-use record_fates::{Opened, is_stale, open_record};
+use record_fates::{is_stale, open_record};
 use record_fields::{Head, MN, no_spots};
-use record_writing::whole::{Recorded, keep_record};
-use rewriting::WindowStart;
+use record_writing::whole::keep_record;
 
 // Whether two numbers of bases fit into the short rows.
 fn both_few(n: usize, k: usize) -> bool
@@ -44,8 +43,8 @@ fn mask_opened(
     sizes: &[usize; 6],
     before: &[u8],
     out: &mut [u8],
-) -> Recorded
-    requires opened_as { OpenedAs bam.now (length before.now) ats.now sizes.now (To head) }
+) -> Result<(usize, bool), Refusal>
+    requires opened_as { OpenedAs bam.now (length before.now) ats.now sizes.now (Ok head) }
     requires bam_value { (is_tagged (fields_of (drop (head_size bam.now) bam.now)) ≡ true)
         × (disagrees (seq_length bam.now) (first_named MN (fields_of (drop (head_size bam.now) bam.now))) ≡ false) }
     ensures { MasksRecord bam.now before.now out.old result out.new }
@@ -85,15 +84,12 @@ fn mask_opened(
 
 // SEQ was masked: `before` are its letters as they were stored before. A base that SEQ no longer holds loses its call, and counts in no later skip. A tag
 // that cannot be edited goes: MM with ML and MN, am and bm alone. If MN disagrees with SEQ's length, all five go.
-pub fn mask_record(bam: &[u8], before: &[u8], out: &mut [u8]) -> Recorded
+pub fn mask_record(bam: &[u8], before: &[u8], out: &mut [u8]) -> Result<(usize, bool), Refusal>
     ensures { MasksRecord bam.now before.now out.old result out.new }
 {
     let mut ats = no_spots();
     let mut sizes = no_spots();
-    let opened = open_record(bam, before.len(), &mut ats, &mut sizes); // its letters are bounded too
-    let Opened::To(head) = opened else {
-        return Recorded::Refused(opened.refusal());
-    };
+    let head = open_record(bam, before.len(), &mut ats, &mut sizes)?; // its letters are bounded too
     let tagged = record_steps::is_tagged(&sizes);
     if !tagged {
         return keep_record(bam, out); // whatever MN is
@@ -113,8 +109,8 @@ fn drop_opened(
     sizes: &[usize; 6],
     places: &[u32],
     out: &mut [u8],
-) -> Recorded
-    requires opened_as { OpenedAs bam.now 0 ats.now sizes.now (To head) }
+) -> Result<(usize, bool), Refusal>
+    requires opened_as { OpenedAs bam.now 0 ats.now sizes.now (Ok head) }
     requires bam_value { (is_tagged (fields_of (drop (head_size bam.now) bam.now)) ≡ true) × (is_empty places.now ≡ false)
         × (disagrees (seq_length bam.now) (first_named MN (fields_of (drop (head_size bam.now) bam.now))) ≡ false) }
     ensures { DropsRecord bam.now places.now out.old result out.new }
@@ -137,15 +133,12 @@ fn drop_opened(
 
 // Drops the calls at places of the stored read. SEQ stays: their bases still count in later skips. Places past the end do nothing. A tag that may lose no
 // such call, since its header does not end in '?', goes.
-pub fn drop_record(bam: &[u8], places: &[u32], out: &mut [u8]) -> Recorded
+pub fn drop_record(bam: &[u8], places: &[u32], out: &mut [u8]) -> Result<(usize, bool), Refusal>
     ensures { DropsRecord bam.now places.now out.old result out.new }
 {
     let mut ats = no_spots();
     let mut sizes = no_spots();
-    let opened = open_record(bam, 0, &mut ats, &mut sizes);
-    let Opened::To(head) = opened else {
-        return Recorded::Refused(opened.refusal());
-    };
+    let head = open_record(bam, 0, &mut ats, &mut sizes)?;
     if places.len() == 0 {
         return keep_record(bam, out);
     }
@@ -168,10 +161,10 @@ fn cut_opened(
     sizes: &[usize; 6],
     before: &[u8],
     before_reverse: bool,
-    start: WindowStart,
+    start: Option<usize>,
     out: &mut [u8],
-) -> Recorded
-    requires opened_as { OpenedAs bam.now (length before.now) ats.now sizes.now (To head) }
+) -> Result<(usize, bool), Refusal>
+    requires opened_as { OpenedAs bam.now (length before.now) ats.now sizes.now (Ok head) }
     requires bam_value { (is_tagged (fields_of (drop (head_size bam.now) bam.now)) ≡ true)
         × (disagrees (length before.now) (first_named MN (fields_of (drop (head_size bam.now) bam.now))) ≡ false)
         × (is_empty before.now && eqb (seq_length bam.now) 0 ≡ false) }
@@ -231,17 +224,14 @@ pub fn cut_record(
     bam: &[u8],
     before: &[u8],
     before_reverse: bool,
-    start: WindowStart,
+    start: Option<usize>,
     out: &mut [u8],
-) -> Recorded
+) -> Result<(usize, bool), Refusal>
     ensures { CutsRecord bam.now before.now before_reverse start out.old result out.new }
 {
     let mut ats = no_spots();
     let mut sizes = no_spots();
-    let opened = open_record(bam, before.len(), &mut ats, &mut sizes);
-    let Opened::To(head) = opened else {
-        return Recorded::Refused(opened.refusal());
-    };
+    let head = open_record(bam, before.len(), &mut ats, &mut sizes)?;
     let tagged = record_steps::is_tagged(&sizes);
     if !tagged {
         return keep_record(bam, out);

@@ -1,11 +1,11 @@
 -- The plan is carried out as the definition of the edit says: for the first field of each name, and for those after it.
 -- Assumes nothing.
+use Rattle.std.specs.Prelude.{None, Some}
 use mathlib.Core.Path.{◌≡◌, refl, sym, ap, ◌∙◌, subst}
 use Prim.Native.Nat.{ℕ, zero, suc, ◌+◌, ◌≤◌}
 use native.Mathlib.Omega.{arith}
 use mathlib.Core.Bool.{Bool, true, false, cond, ◌||◌}
 use mathlib.Core.List.{List, [], ◌∷◌}
-use mathlib.Core.Option.{none, some}
 use lib.Dec.{leb, ltb, eqb}
 use lib.ListN.{length, length-drop, get_or}
 use borrow.Author.Tests.{eqb-true, eqb-false, leb-true, le-leb, le-ltb, lt-ltb, ne_eqb}
@@ -68,7 +68,7 @@ module _ (possible : Bool) (edit : TagEdit) (mm_text ml_values : List ℕ) (n : 
   plan = plan_of (pair_fate g (first_named 0 fs) (first_named 1 fs)) (alone_fate g (first_named 3 fs)) (alone_fate g (first_named 4 fs)) set
 
   abbrev asked : Changes
-  asked = editing g (cond set (some n) none) fs
+  asked = editing g (cond set (Some n) None) fs
 
   fate : FateIs possible edit mm_text ml_values n (first_named 0 fs) (first_named 1 fs) known (pair_fate g (first_named 0 fs) (first_named 1 fs))
   fate = fate_is possible edit mm_text ml_values n (first_named 0 fs) (first_named 1 fs) known
@@ -184,10 +184,10 @@ module _ (possible : Bool) (edit : TagEdit) (mm_text ml_values : List ℕ) (n : 
     mm_there (paired_it t x b q d) e = absurd (omega (arith, e))
 
     alone_there : (f : Field) → alone_fate g f ≡ 1 → is_empty f ≡ false
-    alone_there f e = by-test (is_text f) (λ t. text_there f t) (λ t. none t)
+    alone_there f e = by-test (is_text f) (λ t. text_there f t) (λ t. None t)
       where
-        none : is_text f ≡ false → is_empty f ≡ false
-        none t =
+        None : is_text f ≡ false → is_empty f ≡ false
+        None t =
             let z : ◌≡◌ {A = ℕ} (alone_fate g f) 0 = rw t in
             absurd (omega (arith, z, e))
 

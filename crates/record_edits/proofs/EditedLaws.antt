@@ -1,12 +1,12 @@
 -- What an edit of an opened record needs and gives: the fields that were noted are those of the definition, the plan can be carried out, and the record that
 -- it writes is the one that the definition says.
 -- Assumes nothing.
+use Rattle.std.specs.Prelude.{None, Some}
 use mathlib.Core.Path.{◌≡◌, sym, ap, ◌∙◌, subst}
 use Prim.Native.Nat.{ℕ, ◌+◌, ◌≤◌, ◌<◌}
 use native.Mathlib.Omega.{arith}
 use mathlib.Core.Bool.{Bool, true, false, cond, ◌&&◌, ◌||◌}
 use mathlib.Core.List.{List, [], ◌∷◌, ◌++◌}
-use mathlib.Core.Option.{none, some}
 use lib.Dec.{leb, ltb, eqb}
 use lib.ListN.{length, length-drop, get_or, take, drop}
 use borrow.Author.Tests.{eqb-true, leb-true, le-leb}
@@ -188,7 +188,7 @@ module _ (bam : List ℕ) (from : ℕ) (ats sizes : List ℕ) (bases k : ℕ) (d
     edit_ready = subst (λ (l : List ℕ). Ready m l fs) (sym plan_asked) asked_ready
 
     abbrev new : List Field
-    new = changed (editing g (cond set (some bases) none) fs) fs
+    new = changed (editing g (cond set (Some bases) None) fs) fs
 
     new_is : changed (planned m plan) fs ≡ new
     new_is =

@@ -1,15 +1,15 @@
 -- The plan that the fates give is what the definition of the edit says, field by field.
 -- Assumes nothing.
+use Rattle.std.specs.Prelude.{Ok, Err, None, Some}
 use mathlib.Core.Path.{◌≡◌, refl, sym, ap, ◌∙◌}
 use Prim.Native.Nat.{ℕ}
 use native.Mathlib.Omega.{arith}
 use mathlib.Core.Bool.{Bool, true, false, cond, ◌&&◌}
 use mathlib.Core.List.{List, [], ◌∷◌, ◌++◌}
-use mathlib.Core.Option.{none, some}
 use Rattle.lent.proofs.Tests.{by-test}
 use Rattle.lent.specs.Answers.{is_done}
 use Rattle.lent.specs.Lists.{is_empty}
-use Rattle.lent.specs.Outcome.{Outcome, refused, done, need}
+use Rattle.lent.specs.Outcome.{Outcome, need}
 use Rattle.record_fates.specs.Fates.{alone_fate, array_fate, guarded, length_fate, pair_fate}
 use Rattle.record_fields.specs.Fields.{Field}
 use Rattle.record_tags.specs.Changes.{TagEdit, alone_edited, applied, goes, length_sets, or_goes, refuses, rest, with_ml}
@@ -24,14 +24,14 @@ guarded_done false o h = let z : ◌≡◌ {A = ℕ} 0 1 = cc in absurd (omega a
 
 -- an edit that does not succeed leaves no field
 gone : (g : Tag → Field) (o : Outcome Tag) → is_done o ≡ false → or_goes g o ≡ []
-gone g (refused r) h = refl
-gone g (done t) h = let z : ◌≡◌ {A = ℕ} 0 1 = cc in absurd (omega arith)
+gone g (Err r) h = refl
+gone g (Ok t) h = let z : ◌≡◌ {A = ℕ} 0 1 = cc in absurd (omega arith)
 
 refuses_not : (o : Outcome Tag) (b : Bool) → is_done o ≡ b → refuses o ≡ cond b false true
-refuses_not (refused r) false h = refl
-refuses_not (refused r) true h = let z : ◌≡◌ {A = ℕ} 0 1 = cc in absurd (omega arith)
-refuses_not (done t) true h = refl
-refuses_not (done t) false h = let z : ◌≡◌ {A = ℕ} 0 1 = cc in absurd (omega arith)
+refuses_not (Err r) false h = refl
+refuses_not (Err r) true h = let z : ◌≡◌ {A = ℕ} 0 1 = cc in absurd (omega arith)
+refuses_not (Ok t) true h = refl
+refuses_not (Ok t) false h = let z : ◌≡◌ {A = ℕ} 0 1 = cc in absurd (omega arith)
 
 module _ (possible : Bool) (edit : TagEdit) (mm_text ml_values : List ℕ) (n : ℕ) where
   abbrev m : Means
@@ -123,7 +123,7 @@ module _ (possible : Bool) (edit : TagEdit) (mm_text ml_values : List ℕ) (n : 
     ml_agrees (paired_it t e b q d) h = rw (t, q)
 
     pub mn_same : {k : ℕ} → FateIs k → (set : Bool)
-        → queue_by m (length_fate k set) ≡ cond (is_text mm && refuses o) (goes ∷ []) [] ++ length_sets (cond set (some n) none)
+        → queue_by m (length_fate k set) ≡ cond (is_text mm && refuses o) (goes ∷ []) [] ++ length_sets (cond set (Some n) None)
     unfolding queue_by
     mn_same (untouched t) true = rw t
     mn_same (untouched t) false = rw t

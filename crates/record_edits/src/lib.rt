@@ -1,8 +1,7 @@
 // Removes or edits the tags of a record that was opened. A support crate: its functions may have a `requires`; the public calls are in `record`.
 #![tactic(auto)]
 
-ghost use Rattle.std.specs.Prelude.{◌≡◌, ◌||◌, cond, true, ℕ, ◌+◌, ◌≤◌, eqb, drop, length};
-ghost use Rattle.std.proofs.Math.Option.{none, some};
+ghost use Rattle.std.specs.Prelude.{◌≡◌, ◌||◌, cond, true, ℕ, ◌+◌, ◌≤◌, eqb, drop, length, None, Some};
 ghost use Rattle.lent.specs.Answers.{is_done};
 ghost use Rattle.record_edits.specs.Finish.{finished_from};
 ghost use Rattle.record_fates.specs.Fates.{guarded};
@@ -12,17 +11,17 @@ ghost use Rattle.record_tags.specs.Changes.{changed, editing, is_tagged, removal
 ghost use Rattle.record_tags.specs.Plans.{GOES, PAIRED, by_window};
 ghost use Rattle.record_tags.specs.Records.{in_domain, in_room};
 ghost use Rattle.record_tags.specs.Values.{text_of, values_of};
-ghost use Rattle.record_writing.specs.Answers.{leaves_record, left, record_says};
+ghost use Rattle.record_writing.specs.Answers.{leaves_record, left};
 
+use lent::Refusal;
 use record_fates::fates::{alone_fate, pair_fate, plan_of};
 use record_fields::{AM, BM, ML, MM};
 use record_tags::{GOES, PAIRED, STAYS};
-use record_writing::whole::Recorded;
 
 // The record without the first field of each of the five names.
-pub fn remove_record(bam: &[u8], from: usize, out: &mut [u8]) -> Recorded
+pub fn remove_record(bam: &[u8], from: usize, out: &mut [u8]) -> Result<(usize, bool), Refusal>
     requires { (from ≤ length bam.now) × (is_done (fields (drop from bam.now)) ≡ true) × (is_tagged (fields_of (drop from bam.now)) ≡ true) }
-    ensures { left (record_says result) out.new
+    ensures { left result out.new
         ≡ leaves_record (in_room (length out.old) (finished_from from bam.now (fields_of (drop from bam.now))
         (changed removal (fields_of (drop from bam.now))))) out.old }
 {
@@ -96,13 +95,13 @@ pub fn edit_record(
     set: bool,
     out: &mut [u8],
     work: &mut [u8],
-) -> Recorded
+) -> Result<(usize, bool), Refusal>
     requires from_in_bounds { (from ≤ length bam.now) × (is_done (fields (drop from bam.now)) ≡ true)
         × Spots bam.now (fields_of (drop from bam.now)) ats.now sizes.now × (length seq.now ≤ 16000) }
     requires by_index { (k : ℕ) × (in_domain bases k (fields_of (drop from bam.now)) ≡ true) }
-    ensures { left (record_says result) out.new
+    ensures { left result out.new
         ≡ leaves_record (in_room (length out.old) (finished_from from bam.now (fields_of (drop from bam.now))
-        (changed (editing (guarded possible (by_window lo after.now marks.now seq.now)) (cond set (some bases) none)
+        (changed (editing (guarded possible (by_window lo after.now marks.now seq.now)) (cond set (Some bases) None)
         (fields_of (drop from bam.now))) (fields_of (drop from bam.now))))) out.old }
 {
     let mm = pair_fate(

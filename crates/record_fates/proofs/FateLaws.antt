@@ -1,5 +1,6 @@
 -- What holds of a record that was opened, and what its bytes say of the field at a byte: whether it is within the domain, and what becomes of it.
 -- Assumes nothing.
+use Rattle.std.specs.Prelude.{Ok}
 use mathlib.Core.Path.{◌≡◌, refl, sym, ap, ◌∙◌}
 use mathlib.Core.Bool.{Bool, true, false, cond, ◌&&◌}
 use Prim.Native.Nat.{ℕ, ◌+◌, ◌*◌, ◌-◌, ◌≤◌, ◌<◌}
@@ -22,7 +23,6 @@ use Rattle.record_fields.specs.Fields.{Field, MM, ML, am, bm, fields_of, first_n
 use Rattle.record_fields.specs.Spots.{part}
 use Rattle.record_fields.specs.declared.Head.{Head}
 use Rattle.record_fates.specs.Fates.{OpenedAs, alone_fate, guarded, is_sound, pair_fate, plan_of}
-use Rattle.record_fates.specs.declared.Opened.TheVariants.{To}
 use Rattle.record_tags.specs.Changes.{TagEdit}
 use Rattle.record_tags.specs.Records.{array_fits, in_domain, text_fits}
 use Rattle.record_tags.specs.Values.{is_byte_array, is_text, text_of, type_of, values_of}
@@ -66,7 +66,7 @@ pub record Inside (bam : List ℕ) (k : ℕ) (fs : List Field) : Type 0 where
   pub bases_fit : seq_length bam ≤ 16000
   pub letters_fit : k ≤ 16000
 
-pub opened_inside : (bam : List ℕ) (k : ℕ) (ats sizes : List ℕ) (h : Head) → OpenedAs bam k ats sizes (To h)
+pub opened_inside : (bam : List ℕ) (k : ℕ) (ats sizes : List ℕ) (h : Head) → OpenedAs bam k ats sizes (Ok h)
     → Inside bam k (fields_of (drop (head_size bam) bam))
 unfolding in_domain
 opened_inside bam k ats sizes h o =

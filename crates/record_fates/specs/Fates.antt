@@ -1,13 +1,10 @@
 -- A record that was opened, and the numbers of a plan by what the first field of each name holds. Contracts of support functions; no promise rests on
 -- them.
 -- Assumes nothing.
-use Rattle.std.specs.Prelude.{◌≡◌, ℕ, Bool, true, false, cond, ◌&&◌, ◌||◌, List, [], ◌∷◌, eqb, drop}
+use Rattle.std.specs.Prelude.{◌≡◌, ℕ, Bool, true, false, cond, ◌&&◌, ◌||◌, List, [], ◌∷◌, eqb, drop, Ok, Err}
 use Rattle.lent.specs.Answers.{is_done}
 use Rattle.lent.specs.Lists.{is_empty}
-use Rattle.lent.specs.Outcome.{need, refusal, refused}
-use Rattle.lent.specs.declared.Refusal.{Refusal}
-use Rattle.record_fates.specs.declared.Opened.{Opened}
-use Rattle.record_fates.specs.declared.Opened.TheVariants.{To, Refused}
+use Rattle.lent.specs.Outcome.{Outcome, need}
 use Rattle.record_fields.specs.Bam.{head_size, is_reverse, is_whole, seq_length, seq_start}
 use Rattle.record_fields.specs.Fields.{Field, fields, fields_of, is_field}
 use Rattle.record_fields.specs.Spots.{Spots}
@@ -29,15 +26,11 @@ HeadRead bam h =
     (h.reverse ≡ is_reverse bam) × (h.bases ≡ seq_length bam) × (h.seq_at ≡ seq_start bam) × (h.fields_at ≡ head_size bam)
 
 -- the record is refused whatever is asked of it, or its fields and lengths are in order
-abbrev pub OpenedAs : List ℕ → ℕ → List ℕ → List ℕ → Opened → Type 0
-OpenedAs bam k ats sizes (Refused r) = (room : ℕ) (new : List Field → List Field) → remade bam k room new ≡ refused r
-OpenedAs bam k ats sizes (To h) =
+abbrev pub OpenedAs : List ℕ → ℕ → List ℕ → List ℕ → Outcome Head → Type 0
+OpenedAs bam k ats sizes (Err r) = (room : ℕ) (new : List Field → List Field) → remade bam k room new ≡ Err r
+OpenedAs bam k ats sizes (Ok h) =
     (is_whole bam ≡ true) × HeadRead bam h × (is_done (fields (drop (head_size bam) bam)) ≡ true)
     × Spots bam (fields_of (drop (head_size bam) bam)) ats sizes × (in_domain (seq_length bam) k (fields_of (drop (head_size bam) bam)) ≡ true)
-
-abbrev pub opened_refusal : Opened → Refusal
-opened_refusal (To h) = refusal 0
-opened_refusal (Refused r) = r
 
 -- ---- the plan
 

@@ -7,7 +7,7 @@
 pub mod fates;
 
 ghost use Rattle.std.specs.Prelude.{◌≡◌, ◌||◌, not, true, List, ℕ, ◌+◌, ◌≤◌, ◌<◌, eqb, leb, get_or, length};
-ghost use Rattle.record_fates.specs.Fates.{OpenedAs, is_sound, opened_refusal};
+ghost use Rattle.record_fates.specs.Fates.{OpenedAs, is_sound};
 ghost use Rattle.record_fields.specs.Fields.{Field};
 ghost use Rattle.record_fields.specs.Spots.{Spots, part};
 ghost use Rattle.record_tags.specs.Records.{array_fits, in_domain, text_fits};
@@ -16,25 +16,6 @@ ghost use Rattle.record_tags.specs.Values.{disagrees};
 use lent::Refusal;
 use record_fields::sizes::{half_at, word_at};
 use record_fields::{AM, BM, Head, ML, MM};
-
-// A record whose head, fields and lengths are in order, or why it is refused.
-#[derive(Clone, Copy)]
-pub enum Opened {
-    To(Head),
-    Refused(Refusal),
-}
-
-impl Opened {
-    // The refusal, unchanged. `To` gives the number 0.
-    pub fn refusal(self) -> Refusal
-        ensures { result ≡ opened_refusal self }
-    {
-        match self {
-            Opened::To(_) => Refusal(0),
-            Opened::Refused(refusal) => refusal,
-        }
-    }
-}
 
 // Whether a text is within the domain.
 fn text_fits(bam: &[u8], at: usize, size: usize) -> bool
@@ -92,29 +73,30 @@ fn lengths_fit(
     mm & ml & am & bm
 }
 
-// Opens a record: 14, 15, 1. Notes where the first field of each name is. `letters` is how many letters SEQ had before.
+// Opens a record, and notes where the first field of each name is. `letters` is how many letters SEQ had before. Ok with what the head says; Err with 14, 15
+// or 1, in this order.
 pub fn open_record(
     bam: &[u8],
     letters: usize,
     ats: &mut [usize; 6],
     sizes: &mut [usize; 6],
-) -> Opened
+) -> Result<Head, Refusal>
     ensures { OpenedAs bam.now letters ats.new sizes.new result }
 {
     let whole = record_fields::is_whole(bam);
     if !whole {
-        return Opened::Refused(Refusal(14));
+        return Err(Refusal::ShortRecord);
     }
     let head = record_fields::head_of(bam);
     let parsed = record_fields::scan_fields(bam, head.fields_at, ats, sizes);
     if !parsed {
-        return Opened::Refused(Refusal(15));
+        return Err(Refusal::BadFields);
     }
     let fits = lengths_fit(bam, head.bases, letters, ats, sizes);
     if !fits {
-        return Opened::Refused(Refusal(1));
+        return Err(Refusal::TooLong);
     }
-    Opened::To(head)
+    Ok(head)
 }
 
 // Whether an integer of limited range is another one than n: at the limit and above it is negative.

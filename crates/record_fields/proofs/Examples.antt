@@ -1,10 +1,11 @@
 -- Fields by their bytes: one of each type, and bytes that are refused with 15.
 -- Assumes nothing.
+use Rattle.std.specs.Prelude.{Ok}
 use mathlib.Core.Path.{◌≡◌, refl}
 use mathlib.Core.Bool.{true, false}
 use mathlib.Core.List.{List, [], ◌∷◌, ◌++◌, map}
 use lib.ListN.{replicate}
-use Rattle.lent.specs.Outcome.{done, refuse}
+use Rattle.lent.specs.Outcome.{refuse}
 use Rattle.samtags.specs.Bytes.{ascii}
 use Rattle.record_fields.specs.Bam.{is_whole}
 use Rattle.record_fields.specs.Fields.{MM, Field, am, field_size, fields, first_named, joined}
@@ -17,7 +18,7 @@ each =
     ∷ (ascii "XHH1AE3" ++ 0 ∷ []) ∷ (ascii "MLBC" ++ 2 ∷ 0 ∷ 0 ∷ 0 ∷ 200 ∷ 7 ∷ []) ∷ (ascii "XBBs" ++ 1 ∷ 0 ∷ 0 ∷ 0 ∷ 1 ∷ 2 ∷ []) ∷ (ascii "MMZ" ++ 0 ∷ [])
     ∷ (ascii "MLBC" ++ 0 ∷ 0 ∷ 0 ∷ 0 ∷ []) ∷ []
 
-each_type : fields (joined each) ≡ done each
+each_type : fields (joined each) ≡ Ok each
 unfolding fields
 each_type = refl
 
@@ -35,7 +36,7 @@ first_of_none : first_named am each ≡ []
 unfolding first_named
 first_of_none = refl
 
-no_bytes : fields [] ≡ done []
+no_bytes : fields [] ≡ Ok []
 unfolding fields
 no_bytes = refl
 

@@ -1,5 +1,6 @@
 -- Laws of parsing: one field at a time, at the front of some bytes and at a byte of a record.
 -- Assumes nothing.
+use Rattle.std.specs.Prelude.{Ok, Err}
 use mathlib.Core.Path.{◌≡◌, refl, sym, ap, ◌∙◌}
 use mathlib.Core.Bool.{Bool, true, false, not, or-false}
 use Prim.Native.Nat.{ℕ, zero, suc, ◌+◌, ◌-◌, ◌≤◌, ◌<◌}
@@ -15,7 +16,8 @@ use Rattle.lent.proofs.Numbers.{le_or_lt}
 use Rattle.lent.proofs.Tests.{by-test}
 use Rattle.lent.specs.Answers.{is_done, refuses_only}
 use Rattle.lent.specs.Lists.{is_empty}
-use Rattle.lent.specs.Outcome.{Outcome, refused, done, refuse, and_then, on_done}
+use Rattle.lent.proofs.Outcome.{refusal_of_number}
+use Rattle.lent.specs.Outcome.{Outcome, number, refusal, refuse, and_then, on_done}
 use Rattle.record_fields.proofs.SizeLaws.{array_least, in_fits, in_some}
 use Rattle.record_fields.specs.Fields.{Field, array_size, field_size, fields, fields_in, fields_of, or_none, value_size}
 
@@ -61,11 +63,11 @@ fuel k bytes h = fuel_any k (length bytes) bytes h (omega arith)
 
 -- ---- the first field of some bytes
 
-and_then_on_done : (f : Field) (o : Outcome (List Field)) → and_then o (λ fs. done (f ∷ fs)) ≡ on_done (λ (fs : List Field). f ∷ fs) o
-and_then_on_done f (refused r) = refl
-and_then_on_done f (done fs) = refl
+and_then_on_done : (f : Field) (o : Outcome (List Field)) → and_then o (λ fs. Ok (f ∷ fs)) ≡ on_done (λ (fs : List Field). f ∷ fs) o
+and_then_on_done f (Err r) = refl
+and_then_on_done f (Ok fs) = refl
 
-pub fields_none : fields [] ≡ done []
+pub fields_none : fields [] ≡ Ok []
 unfolding fields
 fields_none = refl
 
@@ -78,7 +80,7 @@ fields_first (x ∷ xs) h k =
     let fits = size_fits (x ∷ xs) k in
     let left : length (drop n (x ∷ xs)) ≡ suc (length xs) - n = length-drop n (x ∷ xs) in
     rw (ne_eqb n 0 k)
-    (ap (λ (o : Outcome (List Field)). and_then o (λ fs. done (take n (x ∷ xs) ∷ fs))) (fuel (length xs) (drop n (x ∷ xs)) (omega (arith, fits.0)))
+    (ap (λ (o : Outcome (List Field)). and_then o (λ fs. Ok (take n (x ∷ xs) ∷ fs))) (fuel (length xs) (drop n (x ∷ xs)) (omega (arith, fits.0)))
     ∙ and_then_on_done (take n (x ∷ xs)) (fields (drop n (x ∷ xs))))
 
 pub fields_unparsed : (bytes : List ℕ) → 0 < length bytes → field_size bytes ≡ 0 → fields bytes ≡ refuse 15
@@ -91,7 +93,7 @@ fields_unparsed (x ∷ xs) h k = rw k
 some_left : (bam : List ℕ) (at : ℕ) → at < length bam → 0 < length (drop at bam)
 some_left bam at h = omega (arith, length-drop at bam)
 
-pub fields_end : (bam : List ℕ) (at : ℕ) → length bam ≤ at → fields (drop at bam) ≡ done []
+pub fields_end : (bam : List ℕ) (at : ℕ) → length bam ≤ at → fields (drop at bam) ≡ Ok []
 fields_end bam at h = rw (drop_of_length-le bam h) fields_none
 
 pub done_end : (bam : List ℕ) (at : ℕ) → length bam ≤ at → is_done (fields (drop at bam)) ≡ true
@@ -121,8 +123,8 @@ module _ (bam : List ℕ) (at n : ℕ) (h : at < length bam) (e : n ≡ field_si
     done_step = rw fields_step (same (fields (drop (at + n) bam)))
       where
         same : (o : Outcome (List Field)) → is_done (on_done (λ (fs : List Field). take n (drop at bam) ∷ fs) o) ≡ is_done o
-        same (refused r) = refl
-        same (done fs) = refl
+        same (Err r) = refl
+        same (Ok fs) = refl
 
     pub fields_of_step : is_done (fields (drop at bam)) ≡ true → fields_of (drop at bam) ≡ take n (drop at bam) ∷ fields_of (drop (at + n) bam)
     unfolding fields_of
@@ -130,8 +132,8 @@ module _ (bam : List ℕ) (at n : ℕ) (h : at < length bam) (e : n ≡ field_si
       where
         told : (o : Outcome (List Field)) → is_done o ≡ true
             → or_none (on_done (λ (fs : List Field). take n (drop at bam) ∷ fs) o) ≡ take n (drop at bam) ∷ or_none o
-        told (refused r) t = let z : ◌≡◌ {A = ℕ} 0 1 = cc in absurd (omega arith)
-        told (done fs) t = refl
+        told (Err r) t = let z : ◌≡◌ {A = ℕ} 0 1 = cc in absurd (omega arith)
+        told (Ok fs) t = refl
 
 -- where all fields parse, the one at a byte before the end does
 pub done_some : (bam : List ℕ) (at : ℕ) → at < length bam → is_done (fields (drop at bam)) ≡ true → field_size (drop at bam) ≡ 0 → ⊥
@@ -147,35 +149,35 @@ fields_of_end bam at h = rw (fields_end bam at h)
 
 -- ---- what parsing answers
 
-pub fields_done : (bytes : List ℕ) → is_done (fields bytes) ≡ true → fields bytes ≡ done (fields_of bytes)
+pub fields_done : (bytes : List ℕ) → is_done (fields bytes) ≡ true → fields bytes ≡ Ok (fields_of bytes)
 unfolding fields_of
 fields_done bytes d = told (fields bytes) d
   where
-    told : (o : Outcome (List Field)) → is_done o ≡ true → o ≡ done (or_none o)
-    told (refused r) t = let z : ◌≡◌ {A = ℕ} 0 1 = cc in absurd (omega arith)
-    told (done fs) t = refl
+    told : (o : Outcome (List Field)) → is_done o ≡ true → o ≡ Ok (or_none o)
+    told (Err r) t = let z : ◌≡◌ {A = ℕ} 0 1 = cc in absurd (omega arith)
+    told (Ok fs) t = refl
 
-pub done_fields : (bytes : List ℕ) (fs : List Field) → fields bytes ≡ done fs → (is_done (fields bytes) ≡ true) × (fields_of bytes ≡ fs)
+pub done_fields : (bytes : List ℕ) (fs : List Field) → fields bytes ≡ Ok fs → (is_done (fields bytes) ≡ true) × (fields_of bytes ≡ fs)
 unfolding fields_of
 done_fields bytes fs e = (ap is_done e, ap or_none e)
 
 -- a refusal is 15
 only_in : (k : ℕ) (bytes : List ℕ) → refuses_only (15 ∷ []) (fields_in k bytes) ≡ true
 unfolding fields_in
-only_in zero bytes = only_need (15 ∷ []) (is_empty bytes) 15 (done []) refl refl
+only_in zero bytes = only_need (15 ∷ []) (is_empty bytes) 15 (Ok []) refl refl
 only_in (suc k) [] = refl
 only_in (suc k) (x ∷ xs) =
     let n = field_size (x ∷ xs) in
-    only_need (15 ∷ []) (not (eqb n 0)) 15 (and_then (fields_in k (drop n (x ∷ xs))) (λ fs. done (take n (x ∷ xs) ∷ fs))) refl
-    (only_and_then (15 ∷ []) (fields_in k (drop n (x ∷ xs))) (λ fs. done (take n (x ∷ xs) ∷ fs)) (only_in k (drop n (x ∷ xs))) (λ fs. refl))
+    only_need (15 ∷ []) (not (eqb n 0)) 15 (and_then (fields_in k (drop n (x ∷ xs))) (λ fs. Ok (take n (x ∷ xs) ∷ fs))) refl
+    (only_and_then (15 ∷ []) (fields_in k (drop n (x ∷ xs))) (λ fs. Ok (take n (x ∷ xs) ∷ fs)) (only_in k (drop n (x ∷ xs))) (λ fs. refl))
 
 pub only_15 : (bytes : List ℕ) → is_done (fields bytes) ≡ false → fields bytes ≡ refuse 15
 unfolding fields
 only_15 bytes d = told (fields bytes) d (only_in (length bytes) bytes)
   where
     told : (o : Outcome (List Field)) → is_done o ≡ false → refuses_only (15 ∷ []) o ≡ true → o ≡ refuse 15
-    told (refused r) t s = let e : 15 ≡ r.0 = eqb-true 15 r.0 (sym (or-false (eqb 15 r.0)) ∙ s) in ap (λ (q : ℕ). refuse q) (sym e)
-    told (done fs) t s = let z : ◌≡◌ {A = ℕ} 0 1 = cc in absurd (omega arith)
+    told (Err r) t s = let e : 15 ≡ number r = eqb-true 15 (number r) (sym (or-false (eqb 15 (number r))) ∙ s) in ap Err (sym (refusal_of_number r) ∙ ap refusal (sym e))
+    told (Ok fs) t s = let z : ◌≡◌ {A = ℕ} 0 1 = cc in absurd (omega arith)
 
 -- an array takes five bytes before its elements
 pub size_array : (bytes : List ℕ) → (field_size bytes ≡ 0 → ⊥) → get_or bytes 2 0 ≡ 66 → 8 ≤ field_size bytes

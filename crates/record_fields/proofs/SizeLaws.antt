@@ -1,21 +1,25 @@
--- The size of a value, at a place of the bytes: what the loop over a text shows at each byte, and the parts of an array and of a field.
+-- The size of a value, at a place of the bytes: where a text ends, and the parts of an array and of a field.
 -- Assumes nothing.
-use mathlib.Core.Path.{◌≡◌, refl, ap, ◌∙◌}
+use mathlib.Core.Path.{◌≡◌, refl, sym, ap, ◌∙◌}
 use mathlib.Core.Bool.{Bool, true, false, cond, not, ◌&&◌, and-false}
 use Prim.Native.Nat.{ℕ, zero, suc, ◌+◌, ◌*◌, ◌-◌, ◌/◌, ◌%◌, ◌≤◌, ◌<◌}
 use native.Mathlib.Nat.{mul-le-mul_right}
 use native.Mathlib.Omega.{arith}
-use mathlib.Core.List.{List}
-use lib.Dec.{eqb, leb}
-use lib.ListN.{drop, drop_of_length-le, get_or, length, length-drop, replicate, set}
-use lib.Seq.{drop-drop, get_or-drop, sets}
+use mathlib.Core.List.{List, [], ◌∷◌}
+use Prim.Native.Nat.compare
+use lib.Dec.{eqb, is_le, leb}
+use lib.ListN.{drop, get_or, length, length-drop, replicate, set, take}
+use lib.Seq.{drop-drop, get_or-drop, sets, take_all}
 use borrow.Author.Tests.{le-leb, leb-false, leb-true, lt-leb, ne_eqb}
-use Rattle.lent.proofs.Lists.{drop_here}
+use Rattle.std.proofs.Common.{None, Some, nat_lt, position}
+use Rattle.std.proofs.lemmas.List.Recursion.{is_position_or_len}
+use Rattle.std.proofs.lemmas.Option.{cond_some, none-some}
+use Rattle.std.specs.List.{position_or_len}
 use Rattle.lent.proofs.Tests.{by-test}
 use Rattle.lent.specs.Lists.{among}
 use Rattle.samtags.specs.Text.{up_to}
 use Rattle.record_fields.specs.Bam.{half, word, word_bytes}
-use Rattle.record_fields.specs.Fields.{array_size, element_size, field_size, value_size}
+use Rattle.record_fields.specs.Fields.{array_size, element_size, field_size, text_size, value_size}
 
 -- a row of zeros, at every place
 pub zeros : (n k : ℕ) → ◌≡◌ {A = ℕ} (get_or (replicate n 0) k 0) 0
@@ -23,18 +27,39 @@ zeros zero k = refl
 zeros (suc n) zero = refl
 zeros (suc n) (suc k) = zeros n k
 
--- ---- a text, at a byte of it
+-- ---- a text, by the place of its NUL
 
-module _ (t : List ℕ) (e : ℕ) where
-  pub text_end : length t ≤ e → among (drop e t) 0 ≡ false
-  text_end h = rw (drop_of_length-le t h)
+abbrev is_nul : ℕ → Bool
+is_nul x = eqb x 0
 
-  pub text_stop : e < length t → get_or t e 0 ≡ 0 → (among (drop e t) 0 ≡ true) × (length (up_to 0 (drop e t)) ≡ 0)
-  text_stop l h = rw (drop_here t e 0 l, h) (refl, refl)
+up_to_nul : (xs : List ℕ) → length (up_to 0 xs) ≡ position_or_len is_nul xs
+up_to_nul = is_position_or_len (λ xs. length (up_to 0 xs)) is_nul refl (λ x xs. by-test (eqb x 0) (λ p. rw p) (λ p. rw p (omega arith)))
 
-  pub text_on : e < length t → (get_or t e 0 ≡ 0 → ⊥)
-      → (among (drop e t) 0 ≡ among (drop (e + 1) t) 0) × (length (up_to 0 (drop e t)) ≡ suc (length (up_to 0 (drop (e + 1) t))))
-  text_on l h = rw (drop_here t e 0 l, ne_eqb (get_or t e 0) 0 h) (refl, refl)
+nul_among : (xs : List ℕ) → among xs 0 ≡ nat_lt (length (up_to 0 xs)) (length xs)
+nul_among [] = refl
+nul_among (x ∷ xs) = by-test (eqb x 0) (λ p. rw p (sym (le-leb 1 (suc (length xs)) (omega arith)))) (λ p. rw p (nul_among xs ∙ sym (ap is_le (compare.suc-suc (suc (length (up_to 0 xs))) (length xs)))))
+
+-- from a place on, as the function reads it
+module _ (b : List ℕ) (from : ℕ) where
+  rest : take (length b - from) (drop from b) ≡ drop from b
+  rest = take_all (length b - from) (drop from b) (omega (arith, length-drop from b))
+
+  -- no NUL
+  pub text_none : position is_nul (take (length b - from) (drop from b)) ≡ None → 0 ≡ text_size (drop from b)
+  text_none e =
+      let xs = drop from b in
+      let n = position_or_len is_nul xs in
+      by-test (nat_lt n (length xs))
+      (λ p. absurd (none-some n (sym e ∙ ap (position is_nul) rest ∙ rw p)))
+      (λ p. rw (nul_among xs, up_to_nul xs, p))
+
+  -- a NUL after n bytes
+  pub text_some : (n : ℕ) → position is_nul (take (length b - from) (drop from b)) ≡ Some n → n + 1 ≡ text_size (drop from b)
+  text_some n e =
+      let xs = drop from b in
+      let p = position_or_len is_nul xs in
+      let found = cond_some (nat_lt p (length xs)) p n (sym (ap (position is_nul) rest) ∙ e) in
+      rw (nul_among xs, up_to_nul xs, found.0, found.1)
 
 -- ---- numbers behind some bytes
 

@@ -1,8 +1,8 @@
 -- The optional fields of a BAM record (SAM v1, section 4.2.4). A field is its bytes: a name of two bytes, a type of one, and its value.
 -- Assumes nothing.
-use Rattle.std.specs.Prelude.{ℕ, zero, suc, ◌+◌, ◌*◌, Bool, cond, not, ◌&&◌, List, [], ◌∷◌, ◌++◌, leb, eqb, length, get_or, take, drop}
+use Rattle.std.specs.Prelude.{ℕ, zero, suc, ◌+◌, ◌*◌, Bool, cond, not, ◌&&◌, List, [], ◌∷◌, ◌++◌, leb, eqb, length, get_or, take, drop, Ok, Err}
 use Rattle.lent.specs.Lists.{among, is_empty}
-use Rattle.lent.specs.Outcome.{Outcome, refused, done, need, and_then}
+use Rattle.lent.specs.Outcome.{Outcome, need, and_then}
 use Rattle.samtags.specs.Bytes.{ascii}
 use Rattle.samtags.specs.Text.{up_to}
 use Rattle.record_fields.specs.Bam.{word}
@@ -46,11 +46,11 @@ field_size bytes =
 -- the fields that the bytes are, at most k of them; 15 if a field does not parse
 unfoldable pub fields_in : ℕ → List ℕ → Outcome (List Field)
 unfolding field_size
-fields_in zero bytes = need (is_empty bytes) 15 (done [])
+fields_in zero bytes = need (is_empty bytes) 15 (Ok [])
 fields_in (suc k) bytes =
     let n = field_size bytes in
-    cond (is_empty bytes) (done [])
-    (need (not (eqb n 0)) 15 (and_then (fields_in k (drop n bytes)) (λ fs. done (take n bytes ∷ fs))))
+    cond (is_empty bytes) (Ok [])
+    (need (not (eqb n 0)) 15 (and_then (fields_in k (drop n bytes)) (λ fs. Ok (take n bytes ∷ fs))))
 
 -- every field takes a byte or more, so there are at most as many fields as bytes
 unfoldable pub fields : List ℕ → Outcome (List Field)
@@ -59,8 +59,8 @@ fields bytes = fields_in (length bytes) bytes
 
 -- the fields of bytes that parse
 abbrev pub or_none : Outcome (List Field) → List Field
-or_none (refused r) = []
-or_none (done fs) = fs
+or_none (Err r) = []
+or_none (Ok fs) = fs
 
 unfoldable pub fields_of : List ℕ → List Field
 unfolding fields

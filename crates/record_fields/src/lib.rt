@@ -34,8 +34,8 @@ pub fn head_of(bam: &[u8]) -> Head
     let seq_at = 32 + bam[8] as usize + 4 * words;
     Head {
         reverse: half_at(bam, 14) / 16 % 2 == 1,
-        bases: bases,
-        seq_at: seq_at,
+        bases,
+        seq_at,
         fields_at: seq_at + (bases + 1) / 2 + bases,
     }
 }
@@ -121,6 +121,7 @@ pub fn scan_fields(bam: &[u8], from: usize, ats: &mut [usize; 6], sizes: &mut [u
     *ats = no_spots();
     *sizes = no_spots();
     let mut at = from;
+    // A cursor, not a count: a field takes as many bytes as it says.
     while at < bam.len() {
         let size = sizes::field_size(bam, at);
         if size == 0 {

@@ -1,5 +1,5 @@
 // Numbers in a record, and how many bytes a field takes.
-ghost use Rattle.std.specs.Prelude.{◌≡◌, ◌+◌, ◌≤◌, ◌<◌, length, drop};
+ghost use Rattle.std.specs.Prelude.{◌≡◌, ◌+◌, ◌≤◌, ◌<◌, eqb, length, drop, position};
 ghost use Rattle.std.proofs.lemmas.List.Edits.{sets};
 ghost use Rattle.record_fields.specs.Bam.{half, word, word_bytes};
 ghost use Rattle.record_fields.specs.Fields.{array_size, element_size, field_size, fixed_size, text_size, value_size};
@@ -61,19 +61,22 @@ fn element_size(kind: u8) -> usize
     fixed_size(kind)
 }
 
+// Where the first NUL is, if there is one.
+fn first_nul(bytes: &[u8]) -> Option<usize>
+    ensures { result ≡ position (λ b. eqb b 0) bytes.now }
+{
+    bytes.iter().position(|b| *b == 0)
+}
+
 // How many bytes a text takes from a byte on, with its NUL; 0 if there is no NUL.
 fn text_size(bytes: &[u8], from: usize) -> usize
     requires { from ≤ length bytes.now }
     ensures { result ≡ text_size (drop from bytes.now) }
 {
-    let mut end = from;
-    while end < bytes.len() {
-        if bytes[end] == 0 {
-            return end - from + 1;
-        }
-        end += 1;
-    }
-    0
+    let Some(n) = first_nul(&bytes[from..]) else {
+        return 0;
+    };
+    n + 1
 }
 
 // How many bytes an array takes from a byte on, as its count says; 0 if its type or its count is no such thing. The count has 32 bits, and the

@@ -1,9 +1,9 @@
 -- Handing on the answer of a call on a record: the number of the definition, the two lent numbers, and the row.
 -- Assumes nothing.
+use Rattle.std.specs.Prelude.{Option}
 use Prim.Native.Nat.{ℕ}
 use mathlib.Core.Bool.{Bool}
 use mathlib.Core.List.{List}
-use mathlib.Core.Option.{Option}
 use mathlib.Core.Path.{◌≡◌, ◌∙◌, ap}
 use lib.ListN.{length}
 use Rattle.lent.specs.Outcome.{Outcome, number_of, on_done}

@@ -8,24 +8,23 @@
 ghost use Rattle.std.specs.Prelude.{◌≡◌, Bool, ℕ};
 ghost use Rattle.lent.specs.Outcome.{number_of};
 ghost use Rattle.record_lib.specs.RecordContracts.{CutsRecordInC, DropsRecordInC, MasksRecordInC, as_number};
-ghost use Rattle.record_writing.specs.Answers.{record_says};
 ghost use Rattle.telling.specs.Told.{told};
 
-use record_writing::whole::Recorded;
+use lent::Refusal;
 
 // Passes an answer on.
-fn tell(answer: Recorded, out_len: &mut usize, went: &mut usize) -> u8
-    ensures { (result ≡ number_of (record_says answer))
-        × (out_len.new ≡ told (λ (s : ℕ × Bool). s.0) (record_says answer) out_len.old)
-        × (went.new ≡ told (λ (s : ℕ × Bool). as_number s.1) (record_says answer) went.old) }
+fn tell(answer: Result<(usize, bool), Refusal>, out_len: &mut usize, went: &mut usize) -> u8
+    ensures { (result ≡ number_of answer)
+        × (out_len.new ≡ told (λ (s : ℕ × Bool). s.0) answer out_len.old)
+        × (went.new ≡ told (λ (s : ℕ × Bool). as_number s.1) answer went.old) }
 {
     match answer {
-        Recorded::Done(length, gone) => {
+        Ok((length, gone)) => {
             *out_len = length;
             *went = gone as usize;
             0
         }
-        Recorded::Refused(refusal) => refusal.0,
+        Err(refusal) => refusal.number(),
     }
 }
 

@@ -1,5 +1,6 @@
 -- One field of the new record: the runs of bytes that the code writes one after the other are the field's bytes, by each number of a plan.
 -- Assumes nothing.
+use Rattle.std.specs.Prelude.{Ok, Err}
 use mathlib.Core.Path.{◌≡◌, refl, sym, ap, ◌∙◌, subst}
 use Prim.Native.Nat.{ℕ, suc, ◌+◌, ◌-◌, ◌≤◌}
 use native.Mathlib.Omega.{arith}
@@ -15,7 +16,7 @@ use Rattle.lent.proofs.Lists.{drop_take}
 use Rattle.lent.proofs.Stores.{sets_append}
 use Rattle.lent.proofs.Tests.{and_true_l, and_true_r}
 use Rattle.lent.specs.Answers.{is_done}
-use Rattle.lent.specs.Outcome.{Outcome, refused, done}
+use Rattle.lent.specs.Outcome.{Outcome}
 use Rattle.record_fields.specs.Bam.{word_bytes}
 use Rattle.record_fields.specs.Fields.{Field}
 use Rattle.record_fields.specs.Spots.{part}
@@ -143,9 +144,9 @@ module _ (bam out out1 out2 out3 : List ℕ) (at size end from s : ℕ) (h : 4 �
 -- ---- an edited tag
 
 -- a tag whose edit is done
-pub done_in : (o : Outcome Tag) → is_done o ≡ true → o ≡ done (record { text = text_in o; ml = values_in o })
-done_in (refused r) d = let z : ◌≡◌ {A = ℕ} 0 1 = cc in absurd (omega arith)
-done_in (done t) d = refl
+pub done_in : (o : Outcome Tag) → is_done o ≡ true → o ≡ Ok (record { text = text_in o; ml = values_in o })
+done_in (Err r) d = let z : ◌≡◌ {A = ℕ} 0 1 = cc in absurd (omega arith)
+done_in (Ok t) d = refl
 
 -- a list that was written into a row waits there, if the row is long enough
 pub now_waits : (xs work work' : List ℕ) (n : ℕ) → work' ≡ sets work 0 xs → n ≡ length xs → Waits (leb n (length work')) xs n work'
@@ -168,18 +169,18 @@ pub no_longer : (lo : ℕ) (after marks seq mm ml : List ℕ)
 no_longer lo after marks seq mm ml = go (by_window lo after marks seq true mm ml) refl
   where
     go : (o : Outcome Tag) → by_window lo after marks seq true mm ml ≡ o → (length (text_in o) ≤ length mm) × (length (values_in o) ≤ length ml)
-    go (refused r) e = (omega arith, omega arith)
-    go (done t) e = never_longer (window_edit lo after marks) true seq mm ml t e
+    go (Err r) e = (omega arith, omega arith)
+    go (Ok t) e = never_longer (window_edit lo after marks) true seq mm ml t e
 
 -- ---- by the numbers of a plan
 
 one_text : (o : Outcome Tag) (f : Field) → is_done o ≡ true → or_goes (λ (t : Tag). with_text t.text f) o ≡ with_text (text_in o) f ∷ []
-one_text (refused r) f d = let z : ◌≡◌ {A = ℕ} 0 1 = cc in absurd (omega arith)
-one_text (done t) f d = refl
+one_text (Err r) f d = let z : ◌≡◌ {A = ℕ} 0 1 = cc in absurd (omega arith)
+one_text (Ok t) f d = refl
 
 one_values : (o : Outcome Tag) (f : Field) → is_done o ≡ true → or_goes (λ (t : Tag). with_values t.ml f) o ≡ with_values (values_in o) f ∷ []
-one_values (refused r) f d = let z : ◌≡◌ {A = ℕ} 0 1 = cc in absurd (omega arith)
-one_values (done t) f d = refl
+one_values (Err r) f d = let z : ◌≡◌ {A = ℕ} 0 1 = cc in absurd (omega arith)
+one_values (Ok t) f d = refl
 
 module _ (m : Means) (a : ℕ) (f : Field) where
   pub by_goes : a ≡ 1 → applied (queue_by m a) f ≡ []

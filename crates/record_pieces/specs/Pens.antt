@@ -1,21 +1,21 @@
 -- The new record while it is written. Contracts of support functions; no promise rests on them.
 -- Assumes nothing.
-use Rattle.std.specs.Prelude.{◌≡◌, ℕ, ◌+◌, Bool, true, List, [], length, take}
+use Rattle.std.specs.Prelude.{◌≡◌, ℕ, ◌+◌, Bool, true, List, [], length, take, Ok, Err}
 use Rattle.std.proofs.lemmas.List.Edits.{sets}
-use Rattle.lent.specs.Outcome.{Outcome, refused, done}
+use Rattle.lent.specs.Outcome.{Outcome}
 use Rattle.record_fields.specs.Fields.{Field, joined}
 use Rattle.record_pieces.specs.declared.Pen.{Pen}
 use Rattle.samtags.specs.Writing.{Tag}
 
 -- the text of a tag that is edited
 abbrev pub text_in : Outcome Tag → List ℕ
-text_in (refused r) = []
-text_in (done t) = t.text
+text_in (Err r) = []
+text_in (Ok t) = t.text
 
 -- the values of a tag that is edited
 abbrev pub values_in : Outcome Tag → List ℕ
-values_in (refused r) = []
-values_in (done t) = t.ml
+values_in (Err r) = []
+values_in (Ok t) = t.ml
 
 -- a list waits at the front of the work row, if the flag says so
 abbrev pub Waits : Bool → List ℕ → ℕ → List ℕ → Type 0

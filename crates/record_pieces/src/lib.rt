@@ -183,7 +183,7 @@ fn put_text(
     if pen.text {
         let end = copy_text(bam, at, work, pen.kept, out, pen.end);
         return Pen {
-            end: end,
+            end,
             kept: pen.kept,
             values: pen.values,
             text: pen.text,
@@ -218,7 +218,7 @@ fn put_array(
     if pen.values {
         let end = copy_array(bam, at, work, pen.kept, out, pen.end);
         return Pen {
-            end: end,
+            end,
             kept: pen.kept,
             values: pen.values,
             text: pen.text,
@@ -337,7 +337,7 @@ pub fn put_field(
         bam, at, size, number, bases, seq, after, marks, lo, out, pen.end,
     );
     Pen {
-        end: end,
+        end,
         kept: pen.kept,
         values: pen.values,
         text: pen.text,

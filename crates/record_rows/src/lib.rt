@@ -2,19 +2,15 @@
 // crate: its functions may have a `requires`; the public calls are in `record`.
 #![tactic(auto)]
 
-ghost use Rattle.std.specs.Prelude.{◌≡◌, cond, true, false, [], ◌+◌, ◌-◌, ◌≤◌, ◌<◌, min, length};
+ghost use Rattle.std.specs.Prelude.{◌≡◌, cond, true, false, [], ◌+◌, ◌-◌, ◌≤◌, ◌<◌, min, length, Ok};
 ghost use Rattle.std.proofs.lemmas.List.Edits.{sets};
 ghost use Rattle.changing.specs.Windows.{window_edit};
 ghost use Rattle.lent.specs.Answers.{is_done};
 ghost use Rattle.lent.specs.Filled.{over};
-ghost use Rattle.lent.specs.Outcome.{done};
 ghost use Rattle.packed.specs.Walks.{TableOf};
 ghost use Rattle.samtags.specs.Edits.{edited};
 ghost use Rattle.samtags.specs.Writing.{Tag};
 ghost use Rattle.record_rows.specs.Letters.{complement_of, turned_letters};
-
-use drafting::Edited;
-use measuring::Counted;
 
 // The complement of each byte.
 const COMPLEMENT: [u8; 256] = *b"\x00\x01\x02\x03\x04\x05\x06\x07\x08\x09\x0a\x0b\x0c\x0d\x0e\x0f\
@@ -54,12 +50,7 @@ fn letters_forward(letters: &[u8], row: &mut [u8])
     requires { length letters.now ≤ length row.old }
     ensures { row.new ≡ over (turned_letters false letters.now) row.old }
 {
-    let n = letters.len();
-    let mut i = 0;
-    while i < n {
-        row[i] = letters[i];
-        i += 1;
-    }
+    row[..letters.len()].copy_from_slice(letters);
 }
 
 // Writes letters to the front of a row, reverse-complemented. The table is made a value once, before the loop.
@@ -69,10 +60,8 @@ fn letters_backward(letters: &[u8], row: &mut [u8])
 {
     let table = complement_table();
     let n = letters.len();
-    let mut i = 0;
-    while i < n {
+    for i in 0..n {
         row[i] = complement(&table, letters[n - 1 - i]);
-        i += 1;
     }
 }
 
@@ -88,24 +77,11 @@ pub fn turn_letters(letters: &[u8], reverse: bool, row: &mut [u8])
     letters_forward(letters, row);
 }
 
-// The smaller of the two.
-pub fn at_most(n: usize, most: usize) -> usize
-    ensures { result ≡ min n most }
-{
-    if n < most {
-        return n;
-    }
-    most
-}
-
 // How many of `bytes` bytes a row of `room` bytes has room for, from an index on.
 fn fitting(room: usize, at: usize, bytes: usize) -> usize
     ensures { result ≡ min bytes (room - at) }
 {
-    if room <= at {
-        return 0;
-    }
-    at_most(bytes, room - at)
+    bytes.min(room.saturating_sub(at))
 }
 
 // Writes bytes from an index on, as far as the row reaches, and returns the index after them.
@@ -114,15 +90,14 @@ pub fn put_bytes(out: &mut [u8], at: usize, bytes: &[u8]) -> usize
     ensures { (result ≡ at + length bytes.now) × (out.new ≡ sets out.old at bytes.now) }
 {
     let fits = fitting(out.len(), at, bytes.len());
-    let mut i = 0;
-    while i < fits {
-        out[at + i] = bytes[i];
-        i += 1;
+    if fits == 0 {
+        return at + bytes.len();
     }
+    out[at..at + fits].copy_from_slice(&bytes[..fits]);
     at + bytes.len()
 }
 
-// Whether the tag can be edited. The first walk needs no places; if it is `Unsure`, the walk that writes decides, over empty rows.
+// Whether the tag can be edited. The first walk needs no places; if it gives None, the walk that writes decides, over empty rows.
 pub fn accepts(
     seq: &[u8],
     after: &[u8],
@@ -136,18 +111,10 @@ pub fn accepts(
     ensures { result ≡ is_done
         (edited (window_edit lo after.now marks.now) has_ml seq.now mm.now ml.now) }
 {
-    let counted = measuring::count_tag(seq, mm, ml, has_ml, marks.len() != 0);
-    match counted {
-        Counted::To(_) => true,
-        Counted::Refused(_) => false,
-        Counted::Unsure => {
-            let measured = editing::measure(seq, after, marks, mm, ml, lo, has_ml);
-            let Edited::To(_) = measured else {
-                return false;
-            };
-            true
-        }
-    }
+    let Ok(counted) = measuring::count_tag(seq, mm, ml, has_ml, marks.len() != 0) else {
+        return false;
+    };
+    counted.is_some() || editing::measure(seq, after, marks, mm, ml, lo, has_ml).is_ok()
 }
 
 // How many bytes of text and how many values of ML an edited tag takes.
@@ -173,12 +140,12 @@ pub fn put_tag(
     requires seq_len_bound { (length seq.now ≤ 16000) × (length mm.now ≤ 65536) × (length ml.now ≤ 65536) × (cond has_ml ml.now [] ≡ ml.now) }
     requires ml_value { is_done (edited (window_edit lo after.now marks.now) has_ml seq.now mm.now ml.now) ≡ true }
     ensures text_value { (t : Tag)
-        → edited (window_edit lo after.now marks.now) has_ml seq.now mm.now ml.now ≡ done t
+        → edited (window_edit lo after.now marks.now) has_ml seq.now mm.now ml.now ≡ Ok t
         → (result.text ≡ length t.text) × (result.values ≡ length t.ml)
         × (out.new ≡ sets out.old at t.text) × (work.new ≡ sets work.old 0 t.ml) }
     ensures text_in_bounds { (result.text ≤ length mm.now) × (result.values ≤ length ml.now) }
 {
-    let room = at_most(at, out.len());
+    let room = at.min(out.len());
     let edited = drafting::edit_groups(
         seq,
         after,
@@ -190,7 +157,7 @@ pub fn put_tag(
         &mut out[room..],
         work,
     );
-    let Edited::To(end) = edited else {
+    let Ok(end) = edited else {
         return Sizes { text: 0, values: 0 };
     };
     Sizes {
@@ -214,12 +181,12 @@ pub fn put_values(
     requires seq_len_bound { (length seq.now ≤ 16000) × (length mm.now ≤ 65536) × (length ml.now ≤ 65536) }
     requires ml_value { is_done (edited (window_edit lo after.now marks.now) true seq.now mm.now ml.now) ≡ true }
     ensures text_value { (t : Tag)
-        → edited (window_edit lo after.now marks.now) true seq.now mm.now ml.now ≡ done t
+        → edited (window_edit lo after.now marks.now) true seq.now mm.now ml.now ≡ Ok t
         → (result.text ≡ length t.text) × (result.values ≡ length t.ml)
         × (out.new ≡ sets out.old at t.ml) × (work.new ≡ sets work.old 0 t.text) }
     ensures text_in_bounds { (result.text ≤ length mm.now) × (result.values ≤ length ml.now) }
 {
-    let start = at_most(at, out.len());
+    let start = at.min(out.len());
     let edited = drafting::edit_groups(
         seq,
         after,
@@ -231,7 +198,7 @@ pub fn put_values(
         work,
         &mut out[start..],
     );
-    let Edited::To(end) = edited else {
+    let Ok(end) = edited else {
         return Sizes { text: 0, values: 0 };
     };
     Sizes {

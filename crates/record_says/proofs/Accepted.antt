@@ -1,17 +1,16 @@
 -- Where a call edited a tag and kept it, the reader accepted the old tag over SEQ as it was. So the theorems of Edited apply, and the reader accepts the new
 -- tag over SEQ as it is now: nothing need be known of the tag but its type.
 -- Assumes nothing.
+use Rattle.std.specs.Prelude.{Ok, Option, None, Some}
 use mathlib.Core.Path.{◌≡◌, refl}
 use Prim.Native.Nat.{ℕ}
 use native.Mathlib.Omega.{arith}
 use mathlib.Core.Bool.{Bool, true, false, cond}
 use mathlib.Core.List.{List, [], ◌∷◌, ◌++◌, map}
-use mathlib.Core.Option.{Option, none, some}
 use lib.Dec.{eqb}
 use lib.ListN.{length}
 use Rattle.lent.proofs.Outcome.{and_then_inv, need_rest}
 use Rattle.lent.specs.Lists.{every, is_empty}
-use Rattle.lent.specs.Outcome.{done}
 use Rattle.record_fields.specs.Bam.{is_reverse, packed_seq, seq_length}
 use Rattle.record_fields.specs.Fields.{Field, MM, first_named}
 use Rattle.record_rows.specs.Letters.{turned_letters}
@@ -47,8 +46,8 @@ all_allowed [] = refl
 all_allowed (g ∷ gs) = rw (nothing_denied g.header g.spots) (all_allowed gs)
 
 -- whatever places are dropped
-edited_was_read : (e : Edit) (ml? : Bool) (seq text ml : List ℕ) (t : Tag) → edited e ml? seq text ml ≡ done t
-    → (ls : List Listing) × (lists ml? seq text ml ≡ done ls)
+edited_was_read : (e : Edit) (ml? : Bool) (seq text ml : List ℕ) (t : Tag) → edited e ml? seq text ml ≡ Ok t
+    → (ls : List Listing) × (lists ml? seq text ml ≡ Ok ls)
 unfolding edited lists
 edited_was_read e ml? seq text ml t d =
     let (gs, reads, is) = and_then_inv (read ml? e.dropped seq text ml) _ t d in
@@ -56,7 +55,7 @@ edited_was_read e ml? seq text ml t d =
 
 -- an edit that was done was of a tag that the reader accepts over this SEQ
 abbrev Reads : TagEdit → List ℕ → Type 0
-Reads edit seq = (ml? : Bool) (text ml : List ℕ) (t : Tag) → edit ml? text ml ≡ done t → (ls : List Listing) × (lists ml? seq text ml ≡ done ls)
+Reads edit seq = (ml? : Bool) (text ml : List ℕ) (t : Tag) → edit ml? text ml ≡ Ok t → (ls : List Listing) × (lists ml? seq text ml ≡ Ok ls)
 
 drop_reads : (seq places : List ℕ) → Reads (drop_edit seq places) seq
 unfolding drop_edit
@@ -93,31 +92,31 @@ module _ {n : ℕ} {bam : List ℕ} {new : List Field} {r : Finished} (made : Ma
 -- ---- MM with its ML
 
 -- A drop with places kept MM, a text.
-pub drop_accepted : (bam places : List ℕ) (room : ℕ) (r : Finished) → drop_record bam places room ≡ done r → is_text (mm_of bam) ≡ true
+pub drop_accepted : (bam places : List ℕ) (room : ℕ) (r : Finished) → drop_record bam places room ≡ Ok r → is_text (mm_of bam) ≡ true
     → keeps MM bam r.bytes ≡ true → is_empty places ≡ false → Rewritten (read_seq bam) bam r.bytes (without_calls_at (read_places bam places))
 drop_accepted bam places room r e text kept some-place =
     let made = drop_made bam places room r e in
     let ps = read_places bam places in
     let is = drop_is (is_reverse bam) (seq_length bam) (packed_seq bam) places (fields_in bam) some-place (mm_tagged bam text) (not_removed made MM text kept (omega arith)) in
-    let (ls, before) = mm_listed made (drop_edit (read_seq bam) ps) (drop_tidy (read_seq bam) ps) (read_seq bam) (drop_reads (read_seq bam) ps) 0 none (lengths_none 0) is text kept in
+    let (ls, before) = mm_listed made (drop_edit (read_seq bam) ps) (drop_tidy (read_seq bam) ps) (read_seq bam) (drop_reads (read_seq bam) ps) 0 None (lengths_none 0) is text kept in
     record { listed = ls; before = before; after = edited-lists.drop_lists bam places room r ls e kept before }
 
 -- A mask that changed SEQ, by N only, kept MM, a text.
-pub mask_accepted : (bam before : List ℕ) (room : ℕ) (r : Finished) → mask_record bam before room ≡ done r → is_text (mm_of bam) ≡ true
+pub mask_accepted : (bam before : List ℕ) (room : ℕ) (r : Finished) → mask_record bam before room ≡ Ok r → is_text (mm_of bam) ≡ true
     → keeps MM bam r.bytes ≡ true → same_bytes_of before (stored_seq bam) ≡ false → differs_by_n (turned_letters (is_reverse bam) before) (read_seq bam) ≡ true
     → Rewritten (turned_letters (is_reverse bam) before) bam r.bytes (unmasked_calls (read_seq bam))
 mask_accepted bam before room r e text kept differs by_n =
     let made = mask_made bam before room r e in
     let old = turned_letters (is_reverse bam) before in
     let is = mask_is (is_reverse bam) (seq_length bam) (packed_seq bam) before (fields_in bam) differs (mm_tagged bam text) (not_removed made MM text kept (omega arith)) in
-    let (ls, then) = mm_listed made (mask_edit old (read_seq bam)) (mask_tidy old (read_seq bam)) old (mask_reads old (read_seq bam)) 0 none (lengths_none 0) is text kept in
+    let (ls, then) = mm_listed made (mask_edit old (read_seq bam)) (mask_tidy old (read_seq bam)) old (mask_reads old (read_seq bam)) 0 None (lengths_none 0) is text kept in
     record { listed = ls; before = then; after = edited-lists.mask_lists bam before room r ls e kept then differs by_n }
 
 -- A cut that changed SEQ kept MM, a text.
 pub cut_accepted : (bam before : List ℕ) (before-reverse : Bool) (start : Option ℕ) (room : ℕ) (r : Finished)
-    → cut_record bam before before-reverse start room ≡ done r → is_text (mm_of bam) ≡ true → keeps MM bam r.bytes ≡ true
+    → cut_record bam before before-reverse start room ≡ Ok r → is_text (mm_of bam) ≡ true → keeps MM bam r.bytes ≡ true
     → same_bytes_of (turned_letters before-reverse before) (read_seq bam) ≡ false
-    → (lo : ℕ) × (begins_at bam before before-reverse start ≡ some lo)
+    → (lo : ℕ) × (begins_at bam before before-reverse start ≡ Some lo)
     × Rewritten (turned_letters before-reverse before) bam r.bytes (calls_held_in lo (read_seq bam))
 cut_accepted bam before before-reverse start room r e text kept differs =
     let made = cut_made bam before before-reverse start room r e in
@@ -125,7 +124,7 @@ cut_accepted bam before before-reverse start room r e text kept differs =
     let old = turned_letters before-reverse before in
     let (at, begins, is) = cut_is (is_reverse bam) n (packed_seq bam) before before-reverse start (fields_in bam) differs (mm_tagged bam text) (not_removed made MM text kept (omega arith)) in
     let (ls, then) = mm_listed made (cut_edit at old (read_seq bam)) (cut_tidy at old (read_seq bam)) old (cut_reads at old (read_seq bam)) 3
-    (cond (eqb (length before) n) none (some n)) (λ b. lengths_some (eqb (length before) n) b n) is text kept in
+    (cond (eqb (length before) n) None (Some n)) (λ b. lengths_some (eqb (length before) n) b n) is text kept in
     let (lo, known, after) = edited-lists.cut_lists bam before before-reverse start room r ls e kept then differs in
     (lo, known, record { listed = ls; before = then; after = after })
 
@@ -134,19 +133,19 @@ cut_accepted bam before before-reverse start room r e text kept differs =
 module _ (k : ℕ) (alone : is_alone k ≡ true) (bam : List ℕ) (room : ℕ) (r : Finished) (text : is_text (first_named k (fields_in bam)) ≡ true)
     (kept : keeps k bam r.bytes ≡ true) where
   -- A drop with places kept am or bm, a text.
-  pub drop_alone_accepted : (places : List ℕ) → drop_record bam places room ≡ done r → is_empty places ≡ false
+  pub drop_alone_accepted : (places : List ℕ) → drop_record bam places room ≡ Ok r → is_empty places ≡ false
       → AloneRewritten (read_seq bam) k bam r.bytes (without_calls_at (read_places bam places))
   drop_alone_accepted places e some-place =
       let made = drop_made bam places room r e in
       let ps = read_places bam places in
       let is = drop_is (is_reverse bam) (seq_length bam) (packed_seq bam) places (fields_in bam) some-place (alone_tagged (fields_in bam) k alone text)
       (not_removed made k text kept (alone_low k alone)) in
-      let (ls, before) = alone_listed made (drop_edit (read_seq bam) ps) (drop_tidy (read_seq bam) ps) (read_seq bam) (drop_reads (read_seq bam) ps) 0 none (lengths_none 0) is
+      let (ls, before) = alone_listed made (drop_edit (read_seq bam) ps) (drop_tidy (read_seq bam) ps) (read_seq bam) (drop_reads (read_seq bam) ps) 0 None (lengths_none 0) is
       k alone text kept in
       record { listed = ls; before = before; after = edited-lists.drop_alone_lists k alone bam room r ls kept places e before }
 
   -- A mask that changed SEQ, by N only, kept am or bm, a text.
-  pub mask_alone_accepted : (before : List ℕ) → mask_record bam before room ≡ done r → same_bytes_of before (stored_seq bam) ≡ false
+  pub mask_alone_accepted : (before : List ℕ) → mask_record bam before room ≡ Ok r → same_bytes_of before (stored_seq bam) ≡ false
       → differs_by_n (turned_letters (is_reverse bam) before) (read_seq bam) ≡ true
       → AloneRewritten (turned_letters (is_reverse bam) before) k bam r.bytes (unmasked_calls (read_seq bam))
   mask_alone_accepted before e differs by_n =
@@ -154,13 +153,13 @@ module _ (k : ℕ) (alone : is_alone k ≡ true) (bam : List ℕ) (room : ℕ) (
       let old = turned_letters (is_reverse bam) before in
       let is = mask_is (is_reverse bam) (seq_length bam) (packed_seq bam) before (fields_in bam) differs (alone_tagged (fields_in bam) k alone text)
       (not_removed made k text kept (alone_low k alone)) in
-      let (ls, then) = alone_listed made (mask_edit old (read_seq bam)) (mask_tidy old (read_seq bam)) old (mask_reads old (read_seq bam)) 0 none (lengths_none 0) is k alone text kept in
+      let (ls, then) = alone_listed made (mask_edit old (read_seq bam)) (mask_tidy old (read_seq bam)) old (mask_reads old (read_seq bam)) 0 None (lengths_none 0) is k alone text kept in
       record { listed = ls; before = then; after = edited-lists.mask_alone_lists k alone bam room r ls kept before e then differs by_n }
 
   -- A cut that changed SEQ kept am or bm, a text.
-  pub cut_alone_accepted : (before : List ℕ) (before-reverse : Bool) (start : Option ℕ) → cut_record bam before before-reverse start room ≡ done r
+  pub cut_alone_accepted : (before : List ℕ) (before-reverse : Bool) (start : Option ℕ) → cut_record bam before before-reverse start room ≡ Ok r
       → same_bytes_of (turned_letters before-reverse before) (read_seq bam) ≡ false
-      → (lo : ℕ) × (begins_at bam before before-reverse start ≡ some lo)
+      → (lo : ℕ) × (begins_at bam before before-reverse start ≡ Some lo)
       × AloneRewritten (turned_letters before-reverse before) k bam r.bytes (calls_held_in lo (read_seq bam))
   cut_alone_accepted before before-reverse start e differs =
       let made = cut_made bam before before-reverse start room r e in
@@ -169,6 +168,6 @@ module _ (k : ℕ) (alone : is_alone k ≡ true) (bam : List ℕ) (room : ℕ) (
       let (at, begins, is) = cut_is (is_reverse bam) n (packed_seq bam) before before-reverse start (fields_in bam) differs (alone_tagged (fields_in bam) k alone text)
       (not_removed made k text kept (alone_low k alone)) in
       let (ls, then) = alone_listed made (cut_edit at old (read_seq bam)) (cut_tidy at old (read_seq bam)) old (cut_reads at old (read_seq bam)) 3
-      (cond (eqb (length before) n) none (some n)) (λ b. lengths_some (eqb (length before) n) b n) is k alone text kept in
+      (cond (eqb (length before) n) None (Some n)) (λ b. lengths_some (eqb (length before) n) b n) is k alone text kept in
       let (lo, known, after) = edited-lists.cut_alone_lists k alone bam room r ls kept before before-reverse start e then differs in
       (lo, known, record { listed = ls; before = then; after = after })

@@ -1,17 +1,16 @@
 -- Where no tag is edited and none is removed, every byte is as it came, and no field went.
 -- Assumes nothing.
+use Rattle.std.specs.Prelude.{Ok, Option}
 use mathlib.Core.Path.{◌≡◌, refl, sym, ap, ◌∙◌}
 use Prim.Native.Nat.{ℕ}
 use native.Mathlib.Omega.{arith}
 use mathlib.Core.Bool.{Bool, true, false, not, ◌&&◌, ◌||◌, or-true}
 use mathlib.Core.List.{List, [], ◌∷◌, ◌++◌}
-use mathlib.Core.Option.{Option}
 use lib.Dec.{eqb, ltb}
 use lib.ListN.{length, take}
 use borrow.Author.Tests.{eq-eqb, le-ltb}
 use Rattle.lent.proofs.Tests.{and_true, by-test}
 use Rattle.lent.specs.Lists.{is_empty}
-use Rattle.lent.specs.Outcome.{done}
 use Rattle.packed.specs.Stored.{in_read}
 use Rattle.record_fields.specs.Bam.{head_size, is_reverse, packed_seq, seq_length}
 use Rattle.record_fields.specs.Fields.{Field, MN, first_named, joined}
@@ -51,13 +50,13 @@ untagged {bam} {r} (dropped places room e) t = as_came (drop_made bam places roo
 untagged {bam} {r} (cut before before-reverse start room e) t = as_came (cut_made bam before before-reverse start room r e) (rw t)
 
 -- A drop without places leaves the record as it came.
-pub dropped_nowhere : (bam : List ℕ) (room : ℕ) (r : Finished) → drop_record bam [] room ≡ done r → AsItCame bam r
+pub dropped_nowhere : (bam : List ℕ) (room : ℕ) (r : Finished) → drop_record bam [] room ≡ Ok r → AsItCame bam r
 unfolding drop_fields
 dropped_nowhere bam room r e = as_came (drop_made bam [] room r e) refl
 
 -- A mask that left SEQ the same leaves the record as it came, if MN agrees with SEQ.
 pub masked_the_same : (bam : List ℕ) (room : ℕ) (r : Finished) → disagrees (seq_length bam) (mn_of bam) ≡ false
-    → mask_record bam (stored_seq bam) room ≡ done r → AsItCame bam r
+    → mask_record bam (stored_seq bam) room ≡ Ok r → AsItCame bam r
 unfolding mask_fields
 masked_the_same bam room r d e =
     as_came (mask_made bam (stored_seq bam) room r e)
@@ -75,7 +74,7 @@ cut_same reverse n packed before before-reverse start fs d s =
 -- A cut that left SEQ the same, in read orientation, leaves the record as it came, if MN agrees with SEQ before.
 pub cut_the_same : (bam before : List ℕ) (before-reverse : Bool) (start : Option ℕ) (room : ℕ) (r : Finished)
     → disagrees (length before) (mn_of bam) ≡ false → turned_letters before-reverse before ≡ read_seq bam
-    → cut_record bam before before-reverse start room ≡ done r → AsItCame bam r
+    → cut_record bam before before-reverse start room ≡ Ok r → AsItCame bam r
 cut_the_same bam before before-reverse start room r d s e =
     as_came (cut_made bam before before-reverse start room r e)
     (cut_same (is_reverse bam) (seq_length bam) (packed_seq bam) before before-reverse start (fields_in bam) d s)
@@ -89,7 +88,7 @@ cut_none reverse n packed before-reverse start fs z =
 
 -- A cut from no bases to no bases leaves the record as it came.
 pub cut_of_nothing : (bam : List ℕ) (before-reverse : Bool) (start : Option ℕ) (room : ℕ) (r : Finished) → seq_length bam ≡ 0
-    → cut_record bam [] before-reverse start room ≡ done r → AsItCame bam r
+    → cut_record bam [] before-reverse start room ≡ Ok r → AsItCame bam r
 cut_of_nothing bam before-reverse start room r z e =
     as_came (cut_made bam [] before-reverse start room r e)
     (cut_none (is_reverse bam) (seq_length bam) (packed_seq bam) before-reverse start (fields_in bam) z)

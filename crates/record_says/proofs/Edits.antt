@@ -1,18 +1,18 @@
 -- Under the three calls each field stays, goes or becomes one field of its name. Support for the theorems of this crate.
 -- Assumes nothing.
+use Rattle.std.specs.Prelude.{Ok, Err, Option, None, Some}
 use mathlib.Core.Path.{◌≡◌, refl, sym, subst}
 use Prim.Native.Nat.{ℕ, ◌≤◌, ◌<◌}
 use native.Mathlib.Omega.{arith}
 use mathlib.Core.Bool.{Bool, true, false, cond, not, ◌&&◌, ◌||◌}
 use mathlib.Core.List.{List, [], ◌∷◌, ◌++◌, append_assoc}
-use mathlib.Core.Option.{Option, none, some}
 use lib.Dec.{ltb, eqb}
 use lib.ListN.{length, get_or, length-drop, take}
 use borrow.Author.Tests.{eqb-false, eqb-true, leb-true, ltb-true, ne_eqb}
 use Rattle.lent.proofs.Outcome.{need_rest, need_test}
 use Rattle.lent.proofs.Tests.{and_true_l, and_true_r, by-test}
 use Rattle.lent.specs.Lists.{among, every, is_empty}
-use Rattle.lent.specs.Outcome.{Outcome, done, need, refused}
+use Rattle.lent.specs.Outcome.{Outcome, need}
 use Rattle.packed.specs.Packed.{unpack}
 use Rattle.packed.specs.Stored.{in_read, places_in_read}
 use Rattle.record_fields.proofs.Kept.{bytes_field, bytes_made, name_kept, text_made}
@@ -57,7 +57,7 @@ by_name P a b c d e f k =
 -- the edit's tags are no longer than they were, and a text without a NUL stays one
 pub record Tidy (edit : TagEdit) : Type 0 where
   pub shrinks : Shrinks edit
-  pub no_nul : (ml? : Bool) (text ml : List ℕ) (t : Tag) → edit ml? text ml ≡ done t → lacks 0 text ≡ true → among t.text 0 ≡ false
+  pub no_nul : (ml? : Bool) (text ml : List ℕ) (t : Tag) → edit ml? text ml ≡ Ok t → lacks 0 text ≡ true → among t.text 0 ≡ false
 
 pub mask_tidy : (before seq : List ℕ) → Tidy (mask_edit before seq)
 unfolding mask_edit
@@ -82,9 +82,9 @@ cut_tidy lo before seq = record {
 
 -- a text that is edited
 text_piece : (f : Field) (o : Outcome Tag) → is_field f ≡ true → is_text f ≡ true → name_of f < 5
-    → ((t : Tag) → o ≡ done t → (length t.text ≤ length (text_of f)) × (among t.text 0 ≡ false)) → Piece f (or_goes (λ t. with_text t.text f) o)
-text_piece f (refused r) i t l h = goes l
-text_piece f (done w) i t l h =
+    → ((t : Tag) → o ≡ Ok t → (length t.text ≤ length (text_of f)) × (among t.text 0 ≡ false)) → Piece f (or_goes (λ t. with_text t.text f) o)
+text_piece f (Err r) i t l h = goes l
+text_piece f (Ok w) i t l h =
     let long = field_long f i in
     let is = h w refl in
     becomes l (name_kept f (w.text ++ 0 ∷ []) 3 (omega arith) (omega (arith, long)))
@@ -93,10 +93,10 @@ text_piece f (done w) i t l h =
 
 -- values that are edited
 values_piece : (f : Field) (o : Outcome Tag) → is_field f ≡ true → name_of f < 5
-    → ((t : Tag) → o ≡ done t → (is_byte_array f ≡ true) × (length t.ml ≤ length (values_of f)) × (length t.ml ≤ 65536))
+    → ((t : Tag) → o ≡ Ok t → (is_byte_array f ≡ true) × (length t.ml ≤ length (values_of f)) × (length t.ml ≤ 65536))
     → Piece f (or_goes (λ t. with_values t.ml f) o)
-values_piece f (refused r) i l h = goes l
-values_piece f (done w) i l h =
+values_piece f (Err r) i l h = goes l
+values_piece f (Ok w) i l h =
     let long = field_long f i in
     let is = h w refl in
     let b = eqb-true (get_or f 2 0) 66 (and_true_l (eqb (get_or f 2 0) 66) (eqb (get_or f 3 0) 67) is.0) in
@@ -115,22 +115,22 @@ module _ (edit : TagEdit) (tidy : Tidy edit) where
       (λ t. rw t stays)
 
   -- what MM's edit gives
-  with_ml_lem : (mm ml : Field) (t : Tag) → with_ml edit mm ml ≡ done t
+  with_ml_lem : (mm ml : Field) (t : Tag) → with_ml edit mm ml ≡ Ok t
       → (length t.text ≤ length (text_of mm)) × (lacks 0 (text_of mm) ≡ true → among t.text 0 ≡ false)
   unfolding with_ml
   with_ml_lem mm ml t e =
       by-test (is_empty ml)
-      (λ q. let e' : edit false (text_of mm) [] ≡ done t = rw q at e in ((tidy.shrinks false (text_of mm) [] t e').0, tidy.no_nul false (text_of mm) [] t e'))
+      (λ q. let e' : edit false (text_of mm) [] ≡ Ok t = rw q at e in ((tidy.shrinks false (text_of mm) [] t e').0, tidy.no_nul false (text_of mm) [] t e'))
       (λ q.
-      let e' : need (is_byte_array ml) 8 (edit true (text_of mm) (values_of ml)) ≡ done t = rw q at e in
+      let e' : need (is_byte_array ml) 8 (edit true (text_of mm) (values_of ml)) ≡ Ok t = rw q at e in
       let e'' = need_rest (is_byte_array ml) 8 (edit true (text_of mm) (values_of ml)) t e' in
       ((tidy.shrinks true (text_of mm) (values_of ml) t e'').0, tidy.no_nul true (text_of mm) (values_of ml) t e''))
 
-  with_ml_values : (mm ml : Field) (t : Tag) → is_empty ml ≡ false → with_ml edit mm ml ≡ done t
+  with_ml_values : (mm ml : Field) (t : Tag) → is_empty ml ≡ false → with_ml edit mm ml ≡ Ok t
       → (is_byte_array ml ≡ true) × (length t.ml ≤ length (values_of ml))
   unfolding with_ml
   with_ml_values mm ml t q e =
-      let e' : need (is_byte_array ml) 8 (edit true (text_of mm) (values_of ml)) ≡ done t = rw q at e in
+      let e' : need (is_byte_array ml) 8 (edit true (text_of mm) (values_of ml)) ≡ Ok t = rw q at e in
       (need_test (is_byte_array ml) 8 _ t e', (tidy.shrinks true (text_of mm) (values_of ml) t (need_rest (is_byte_array ml) 8 (edit true (text_of mm) (values_of ml)) t e')).1)
 
   module _ (fs : List Field) (are : every is_field fs ≡ true) (fits : array_fits (first_named ML fs) ≡ true) where
@@ -180,11 +180,11 @@ module _ (edit : TagEdit) (tidy : Tidy edit) where
         unasked k h =
             rw (ne_eqb k 0 (λ e. omega (arith, e)), ne_eqb k 1 (λ e. omega (arith, e)), ne_eqb k 2 (λ e. omega (arith, e)), ne_eqb k 3 (λ e. omega (arith, e)), ne_eqb k 4 (λ e. omega (arith, e)))
 
-pub lengths_none : (n : ℕ) (b : Bool) → Lengths n (cond b (changes.goes ∷ []) [] ++ length_sets none)
+pub lengths_none : (n : ℕ) (b : Bool) → Lengths n (cond b (changes.goes ∷ []) [] ++ length_sets None)
 lengths_none n true = gone
 lengths_none n false = idle
 
-pub lengths_some : (len b : Bool) (n : ℕ) → Lengths 3 (cond b (changes.goes ∷ []) [] ++ length_sets (cond len none (some n)))
+pub lengths_some : (len b : Bool) (n : ℕ) → Lengths 3 (cond b (changes.goes ∷ []) [] ++ length_sets (cond len None (Some n)))
 lengths_some true b n = lengths_none 3 b
 lengths_some false true n = gone_sets n
 lengths_some false false n = sets n
@@ -214,8 +214,8 @@ module _ (fs : List Field) (are : every is_field fs ≡ true) where
     unfolding mask_fields
     mask_each reverse n packed before =
         let edit = mask_edit (turned_letters reverse before) (in_read reverse n packed) in
-        let made = each_changed 0 (editing edit none fs) fs are
-        (editing_sound edit (mask_tidy (turned_letters reverse before) (in_read reverse n packed)) fs are fits 0 none (lengths_none 0)) in
+        let made = each_changed 0 (editing edit None fs) fs are
+        (editing_sound edit (mask_tidy (turned_letters reverse before) (in_read reverse n packed)) fs are fits 0 None (lengths_none 0)) in
         by-test (is_tagged fs)
         (λ t. rw t
         (by-test (disagrees n (first_named MN fs))
@@ -227,15 +227,15 @@ module _ (fs : List Field) (are : every is_field fs ≡ true) where
     unfolding drop_fields
     drop_each reverse n packed places =
         let edit = drop_edit (in_read reverse n packed) (places_in_read reverse n places) in
-        let made = each_changed 0 (editing edit none fs) fs are
-        (editing_sound edit (drop_tidy (in_read reverse n packed) (places_in_read reverse n places)) fs are fits 0 none (lengths_none 0)) in
+        let made = each_changed 0 (editing edit None fs) fs are
+        (editing_sound edit (drop_tidy (in_read reverse n packed) (places_in_read reverse n places)) fs are fits 0 None (lengths_none 0)) in
         by-test (is_empty places || not (is_tagged fs))
         (λ t. rw t (all_stay fs))
         (λ t. rw t (by-test (disagrees n (first_named MN fs)) (λ d. rw d (removed 0)) (λ d. rw d made)))
 
     windowed : (w : Option ℕ) (f : ℕ → List Field) → ((lo : ℕ) → Each 3 fs (f lo)) → Each 3 fs (or_removal w fs f)
-    windowed none f h = removed 3
-    windowed (some lo) f h = h lo
+    windowed None f h = removed 3
+    windowed (Some lo) f h = h lo
 
     pub cut_each : (reverse : Bool) (n : ℕ) (packed before : List ℕ) (before-reverse : Bool) (start : Option ℕ)
         → Each 3 fs (cut_fields reverse n packed before before-reverse start fs)
@@ -243,9 +243,9 @@ module _ (fs : List Field) (are : every is_field fs ≡ true) where
     cut_each reverse n packed before before-reverse start =
         let old = turned_letters before-reverse before in
         let new = in_read reverse n packed in
-        let made : (lo : ℕ) → Each 3 fs (changed (editing (cut_edit lo old new) (cond (eqb (length before) n) none (some n)) fs) fs) =
-        λ lo. each_changed 3 (editing (cut_edit lo old new) (cond (eqb (length before) n) none (some n)) fs) fs are
-        (editing_sound (cut_edit lo old new) (cut_tidy lo old new) fs are fits 3 (cond (eqb (length before) n) none (some n)) (λ b. lengths_some (eqb (length before) n) b n)) in
+        let made : (lo : ℕ) → Each 3 fs (changed (editing (cut_edit lo old new) (cond (eqb (length before) n) None (Some n)) fs) fs) =
+        λ lo. each_changed 3 (editing (cut_edit lo old new) (cond (eqb (length before) n) None (Some n)) fs) fs are
+        (editing_sound (cut_edit lo old new) (cut_tidy lo old new) fs are fits 3 (cond (eqb (length before) n) None (Some n)) (λ b. lengths_some (eqb (length before) n) b n)) in
         by-test (not (is_tagged fs) || is_empty before && eqb n 0)
         (λ t. rw t (all_stay fs))
         (λ t. rw t

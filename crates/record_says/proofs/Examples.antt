@@ -1,14 +1,14 @@
 -- Small records by their bytes, through the three calls.
 -- Assumes nothing.
+use Rattle.std.specs.Prelude.{Ok, None, Some}
 use mathlib.Core.Path.{refl, sym, ◌≡◌}
 use Prim.Native.Nat.{ℕ, ◌+◌, ◌≤◌, ◌<◌}
 use native.Mathlib.Omega.{arith}
 use mathlib.Core.Bool.{true, false}
 use mathlib.Core.List.{List, [], map, ◌++◌, ◌∷◌}
-use mathlib.Core.Option.{none, some}
 use lib.ListN.{length, replicate}
 use Rattle.lent.specs.Lists.{any}
-use Rattle.lent.specs.Outcome.{done, refuse}
+use Rattle.lent.specs.Outcome.{refuse}
 use Rattle.packed.specs.Packed.{pack, unpack}
 use Rattle.packed.specs.Stored.{in_read}
 use Rattle.record_fields.specs.Bam.{is_reverse, seq_length}
@@ -77,7 +77,7 @@ one_dropped :
     drop_record
     (drops_from (byte (ascii "NM") 1 ∷ text (ascii "MM") (ascii "C+m?,0,0;") ∷ text (ascii "XX") (ascii "x") ∷ bytes (ascii "ML") (7 ∷ 8 ∷ []) ∷ byte (ascii "MN") 4 ∷ []))
     (2 ∷ []) 200
-    ≡ done (finished_with false
+    ≡ Ok (finished_with false
     (drops_from (byte (ascii "NM") 1 ∷ text (ascii "MM") (ascii "C+m?,0;") ∷ text (ascii "XX") (ascii "x") ∷ bytes (ascii "ML") (7 ∷ []) ∷ byte (ascii "MN") 4 ∷ [])))
 unfolding drop_record pack
 one_dropped = refl
@@ -87,33 +87,33 @@ unmarked_goes :
     drop_record
     (drops_from (byte (ascii "NM") 1 ∷ text (ascii "MM") (ascii "C+m,0,0;") ∷ bytes (ascii "ML") (7 ∷ 8 ∷ []) ∷ byte (ascii "MN") 4 ∷ text (ascii "am") (ascii "C+m?,0,0;") ∷ []))
     (2 ∷ []) 200
-    ≡ done (finished_with true (drops_from (byte (ascii "NM") 1 ∷ text (ascii "am") (ascii "C+m?,0;") ∷ [])))
+    ≡ Ok (finished_with true (drops_from (byte (ascii "NM") 1 ∷ text (ascii "am") (ascii "C+m?,0;") ∷ [])))
 unfolding drop_record pack
 unmarked_goes = refl
 
 -- an MN of -1 disagrees with SEQ: all five go
 negative_length :
     drop_record (drops_from (text (ascii "MM") (ascii "C+m?,0;") ∷ (ascii "MNc" ++ 255 ∷ []) ∷ text (ascii "bm") (ascii "C+m?,0;") ∷ byte (ascii "NM") 1 ∷ [])) (9 ∷ []) 200
-    ≡ done (finished_with true (drops_from (byte (ascii "NM") 1 ∷ [])))
+    ≡ Ok (finished_with true (drops_from (byte (ascii "NM") 1 ∷ [])))
 unfolding drop_record pack
 negative_length = refl
 
 -- no bases, and an MM that lists nothing
-no_bases : drop_record (bam_of 0 [] (text (ascii "MM") (ascii "C+m;") ∷ [])) (0 ∷ []) 200 ≡ done (finished_with false (bam_of 0 [] (text (ascii "MM") (ascii "C+m;") ∷ [])))
+no_bases : drop_record (bam_of 0 [] (text (ascii "MM") (ascii "C+m;") ∷ [])) (0 ∷ []) 200 ≡ Ok (finished_with false (bam_of 0 [] (text (ascii "MM") (ascii "C+m;") ∷ [])))
 unfolding drop_record pack
 no_bases = refl
 
 -- of two MM the first is edited, and the second stays as it came
 first_of_two :
     drop_record (drops_from (text (ascii "MM") (ascii "C+m?,0,0;") ∷ text (ascii "MM") (ascii "C+m?,1;") ∷ [])) (2 ∷ []) 200
-    ≡ done (finished_with false (drops_from (text (ascii "MM") (ascii "C+m?,0;") ∷ text (ascii "MM") (ascii "C+m?,1;") ∷ [])))
+    ≡ Ok (finished_with false (drops_from (text (ascii "MM") (ascii "C+m?,0;") ∷ text (ascii "MM") (ascii "C+m?,1;") ∷ [])))
 unfolding drop_record pack
 first_of_two = refl
 
 -- no MM, am or bm: the record as it came, with its ML and a stale MN
 no_tag :
     drop_record (drops_from (bytes (ascii "ML") (7 ∷ []) ∷ byte (ascii "MN") 9 ∷ [])) (2 ∷ []) 200
-    ≡ done (finished_with false (drops_from (bytes (ascii "ML") (7 ∷ []) ∷ byte (ascii "MN") 9 ∷ [])))
+    ≡ Ok (finished_with false (drops_from (bytes (ascii "ML") (7 ∷ []) ∷ byte (ascii "MN") 9 ∷ [])))
 unfolding drop_record pack
 no_tag = refl
 
@@ -122,14 +122,14 @@ no_tag = refl
 -- place 2 became N
 one_masked :
     mask_record (bam_of 0 (ascii "ACNA") (text (ascii "MM") (ascii "C+m,0,0;") ∷ bytes (ascii "ML") (7 ∷ 8 ∷ []) ∷ [])) (ascii "ACCA") 200
-    ≡ done (finished_with false (bam_of 0 (ascii "ACNA") (text (ascii "MM") (ascii "C+m,0;") ∷ bytes (ascii "ML") (7 ∷ []) ∷ [])))
+    ≡ Ok (finished_with false (bam_of 0 (ascii "ACNA") (text (ascii "MM") (ascii "C+m,0;") ∷ bytes (ascii "ML") (7 ∷ []) ∷ [])))
 unfolding mask_record pack
 one_masked = refl
 
 -- SEQ before has another length: what can't be edited goes
 other_length :
     mask_record (bam_of 0 (ascii "ACNA") (text (ascii "MM") (ascii "C+m,0;") ∷ bytes (ascii "ML") (7 ∷ []) ∷ byte (ascii "NM") 1 ∷ [])) (ascii "ACC") 200
-    ≡ done (finished_with true (bam_of 0 (ascii "ACNA") (byte (ascii "NM") 1 ∷ [])))
+    ≡ Ok (finished_with true (bam_of 0 (ascii "ACNA") (byte (ascii "NM") 1 ∷ [])))
 unfolding mask_record pack
 other_length = refl
 
@@ -141,40 +141,40 @@ cut_read mn = bam_of 0 (ascii "ACC") (mn ∷ text (ascii "MM") (ascii "C+m,0,0;"
 
 -- MN becomes 3, in four bytes: the record is three bytes longer
 grows :
-    cut_record (cut_read (byte (ascii "MN") 4)) (ascii "ACCA") false (some 0) (length (cut_read (byte (ascii "MN") 4)) + 3)
-    ≡ done (finished_with false (cut_read (ascii "MNi" ++ 3 ∷ 0 ∷ 0 ∷ 0 ∷ [])))
+    cut_record (cut_read (byte (ascii "MN") 4)) (ascii "ACCA") false (Some 0) (length (cut_read (byte (ascii "MN") 4)) + 3)
+    ≡ Ok (finished_with false (cut_read (ascii "MNi" ++ 3 ∷ 0 ∷ 0 ∷ 0 ∷ [])))
 unfolding cut_record pack
 grows = refl
 
 -- with as much room as the record takes: 12
-grows_too_far : cut_record (cut_read (byte (ascii "MN") 4)) (ascii "ACCA") false (some 0) (length (cut_read (byte (ascii "MN") 4))) ≡ refuse 12
+grows_too_far : cut_record (cut_read (byte (ascii "MN") 4)) (ascii "ACCA") false (Some 0) (length (cut_read (byte (ascii "MN") 4))) ≡ refuse 12
 unfolding cut_record pack
 grows_too_far = refl
 
 -- MN says the length of SEQ now, but a cut compares it with SEQ before: all go
 length_of_now :
-    cut_record (cut_read (byte (ascii "MN") 3)) (ascii "ACCA") false (some 0) 200 ≡ done (finished_with true (bam_of 0 (ascii "ACC") []))
+    cut_record (cut_read (byte (ascii "MN") 3)) (ascii "ACCA") false (Some 0) 200 ≡ Ok (finished_with true (bam_of 0 (ascii "ACC") []))
 unfolding cut_record pack
 length_of_now = refl
 
 -- the record was stored reverse and is so no more, with as many bases: it is edited in read orientation
 turned :
-    cut_record (bam_of 0 (ascii "ACN") (text (ascii "MM") (ascii "C+m,0,0;") ∷ bytes (ascii "ML") (7 ∷ 8 ∷ []) ∷ [])) (ascii "GGT") true none 200
-    ≡ done (finished_with false (bam_of 0 (ascii "ACN") (text (ascii "MM") (ascii "C+m,0;") ∷ bytes (ascii "ML") (7 ∷ []) ∷ [])))
+    cut_record (bam_of 0 (ascii "ACN") (text (ascii "MM") (ascii "C+m,0,0;") ∷ bytes (ascii "ML") (7 ∷ 8 ∷ []) ∷ [])) (ascii "GGT") true None 200
+    ≡ Ok (finished_with false (bam_of 0 (ascii "ACN") (text (ascii "MM") (ascii "C+m,0;") ∷ bytes (ascii "ML") (7 ∷ []) ∷ [])))
 unfolding cut_record pack
 turned = refl
 
 -- the same with fewer bases: the start is not known, and all go
 turned_and_shorter :
-    cut_record (bam_of 0 (ascii "AC") (text (ascii "MM") (ascii "C+m,0,0;") ∷ bytes (ascii "ML") (7 ∷ 8 ∷ []) ∷ [])) (ascii "GGT") true (some 1) 200
-    ≡ done (finished_with true (bam_of 0 (ascii "AC") []))
+    cut_record (bam_of 0 (ascii "AC") (text (ascii "MM") (ascii "C+m,0,0;") ∷ bytes (ascii "ML") (7 ∷ 8 ∷ []) ∷ [])) (ascii "GGT") true (Some 1) 200
+    ≡ Ok (finished_with true (bam_of 0 (ascii "AC") []))
 unfolding cut_record pack
 turned_and_shorter = refl
 
 -- a reverse read that lost its first stored base, which is its last base in read orientation
 reverse_cut :
-    cut_record (bam_of 16 (ascii "GT") (text (ascii "MM") (ascii "C+m,0,0;") ∷ bytes (ascii "ML") (7 ∷ 8 ∷ []) ∷ [])) (ascii "GGT") true (some 1) 200
-    ≡ done (finished_with false (bam_of 16 (ascii "GT") (text (ascii "MM") (ascii "C+m,0;") ∷ bytes (ascii "ML") (7 ∷ []) ∷ [])))
+    cut_record (bam_of 16 (ascii "GT") (text (ascii "MM") (ascii "C+m,0,0;") ∷ bytes (ascii "ML") (7 ∷ 8 ∷ []) ∷ [])) (ascii "GGT") true (Some 1) 200
+    ≡ Ok (finished_with false (bam_of 16 (ascii "GT") (text (ascii "MM") (ascii "C+m,0;") ∷ bytes (ascii "ML") (7 ∷ []) ∷ [])))
 unfolding cut_record pack
 reverse_cut = refl
 
@@ -195,7 +195,7 @@ dropped_from = drops_from (text (ascii "MM") (ascii "C+m?,0,0;") ∷ bytes (asci
 abbrev dropped_to : List ℕ
 dropped_to = drops_from (text (ascii "MM") (ascii "C+m?,0;") ∷ bytes (ascii "ML") (7 ∷ []) ∷ [])
 
-drop_met : (drop_record dropped_from (2 ∷ []) 200 ≡ done (finished_with false dropped_to)) × (keeps MM dropped_from dropped_to ≡ true)
+drop_met : (drop_record dropped_from (2 ∷ []) 200 ≡ Ok (finished_with false dropped_to)) × (keeps MM dropped_from dropped_to ≡ true)
 unfolding drop_record pack fields_of name_of
 drop_met = (refl, refl)
 
@@ -213,7 +213,7 @@ abbrev masked_into : List ℕ
 masked_into = bam_of 0 (ascii "ACNA") (text (ascii "MM") (ascii "C+m,0;") ∷ bytes (ascii "ML") (7 ∷ []) ∷ byte (ascii "MN") 4 ∷ [])
 
 mask_met :
-    (mask_record masked_from (ascii "ACCA") 200 ≡ done (finished_with false masked_into))
+    (mask_record masked_from (ascii "ACCA") 200 ≡ Ok (finished_with false masked_into))
     × (disagrees (seq_length masked_from) (mn_of masked_from) ≡ false)
     × (same_bytes_of (ascii "ACCA") (stored_seq masked_from) ≡ false)
     × (differs_by_n (turned_letters (is_reverse masked_from) (ascii "ACCA")) (read_seq masked_from) ≡ true)
@@ -239,10 +239,10 @@ abbrev cut_into : List ℕ
 cut_into = bam_of 16 (ascii "GGT") (text (ascii "MM") (ascii "C+m,0,0;") ∷ bytes (ascii "ML") (7 ∷ 8 ∷ []) ∷ (ascii "MNi" ++ 3 ∷ 0 ∷ 0 ∷ 0 ∷ []) ∷ [])
 
 cut_met :
-    (cut_record cut_from (ascii "TGGT") true (some 1) 200 ≡ done (finished_with false cut_into))
+    (cut_record cut_from (ascii "TGGT") true (Some 1) 200 ≡ Ok (finished_with false cut_into))
     × (disagrees 4 (mn_of cut_from) ≡ false)
     × (same_bytes_of (turned_letters true (ascii "TGGT")) (read_seq cut_from) ≡ false)
-    × (window_in (begins_at cut_from (ascii "TGGT") true (some 1)) (turned_letters true (ascii "TGGT")) (read_seq cut_from) ≡ some 0)
+    × (window_in (begins_at cut_from (ascii "TGGT") true (Some 1)) (turned_letters true (ascii "TGGT")) (read_seq cut_from) ≡ Some 0)
 unfolding cut_record fields_of first_named in_read pack turned_letters
 cut_met = (refl, refl, refl, refl)
 
@@ -252,15 +252,15 @@ cut_listed = record { tagged = refl; listed = refl }
 
 cut_kept : keeps MM cut_from cut_into ≡ true
 cut_kept =
-    cut_keeps cut_from (ascii "TGGT") true (some 1) 200 (finished_with false cut_into) (two_calls (ascii "C+m")) 0 cut_met.0 cut_listed cut_met.1 cut_met.3
+    cut_keeps cut_from (ascii "TGGT") true (Some 1) 200 (finished_with false cut_into) (two_calls (ascii "C+m")) 0 cut_met.0 cut_listed cut_met.1 cut_met.3
 
-cut_promise : (lo : ℕ) × (begins_at cut_from (ascii "TGGT") true (some 1) ≡ some lo)
+cut_promise : (lo : ℕ) × (begins_at cut_from (ascii "TGGT") true (Some 1) ≡ Some lo)
     × ListsOver (read_seq cut_into) cut_into (map (calls_held_in lo (read_seq cut_from)) (two_calls (ascii "C+m")))
 cut_promise =
-    cut_lists cut_from (ascii "TGGT") true (some 1) 200 (finished_with false cut_into) (two_calls (ascii "C+m")) cut_met.0 cut_kept cut_listed cut_met.2
+    cut_lists cut_from (ascii "TGGT") true (Some 1) 200 (finished_with false cut_into) (two_calls (ascii "C+m")) cut_met.0 cut_kept cut_listed cut_met.2
 
 clean_met :
-    (start_of (is_reverse cut_from) true 4 (seq_length cut_from) (some 1) ≡ some 0)
+    (start_of (is_reverse cut_from) true 4 (seq_length cut_from) (Some 1) ≡ Some 0)
     × (read_seq cut_from ≡ window 0 3 (turned_letters true (ascii "TGGT")))
     × (0 + 3 ≤ length (turned_letters true (ascii "TGGT")))
     × (length (read_seq cut_from) < length (turned_letters true (ascii "TGGT")))
@@ -269,11 +269,11 @@ clean_met = (refl, refl, omega arith, omega arith)
 
 clean_cut_promise : ListsOver (read_seq cut_into) cut_into (two_calls (ascii "C+m"))
 clean_cut_promise =
-    clean_cut_lists cut_from (ascii "TGGT") true (some 1) 200 (finished_with false cut_into) (two_calls (ascii "C+m")) cut_met.0 cut_kept cut_listed cut_met.2
+    clean_cut_lists cut_from (ascii "TGGT") true (Some 1) 200 (finished_with false cut_into) (two_calls (ascii "C+m")) cut_met.0 cut_kept cut_listed cut_met.2
     0 3 clean_met.0 clean_met.1 clean_met.2 clean_met.3
 
 cut_length_promise : disagrees (seq_length cut_into) (mn_of cut_into) ≡ false
-cut_length_promise = cut_length cut_from (ascii "TGGT") true (some 1) 200 (finished_with false cut_into) cut_met.0 cut_listed.tagged cut_kept cut_met.2
+cut_length_promise = cut_length cut_from (ascii "TGGT") true (Some 1) 200 (finished_with false cut_into) cut_met.0 cut_listed.tagged cut_kept cut_met.2
 
 -- with no name twice, a tag went exactly where a name is gone
 went_met : none_twice (fields_in dropped_from) ≡ true
@@ -296,7 +296,7 @@ bare_call_at p = record { place = p; values = [] }
 abbrev bare_calls : List Call → List Listing
 bare_calls cs = record { header = ascii "C+m?"; calls = cs } ∷ []
 
-alone_met : (drop_record alone_from (2 ∷ []) 200 ≡ done (finished_with false alone_to)) × (keeps am alone_from alone_to ≡ true)
+alone_met : (drop_record alone_from (2 ∷ []) 200 ≡ Ok (finished_with false alone_to)) × (keeps am alone_from alone_to ≡ true)
 unfolding drop_record fields_of name_of pack
 alone_met = (refl, refl)
 
@@ -320,9 +320,9 @@ drop_rewritten = drop_accepted dropped_from (2 ∷ []) 200 (finished_with false 
 mask_rewritten : Rewritten (turned_letters (is_reverse masked_from) (ascii "ACCA")) masked_from masked_into (unmasked_calls (read_seq masked_from))
 mask_rewritten = mask_accepted masked_from (ascii "ACCA") 200 (finished_with false masked_into) mask_met.0 texts_met.1 mask_kept mask_met.2 mask_met.3
 
-cut_rewritten : (lo : ℕ) × (begins_at cut_from (ascii "TGGT") true (some 1) ≡ some lo)
+cut_rewritten : (lo : ℕ) × (begins_at cut_from (ascii "TGGT") true (Some 1) ≡ Some lo)
     × Rewritten (turned_letters true (ascii "TGGT")) cut_from cut_into (calls_held_in lo (read_seq cut_from))
-cut_rewritten = cut_accepted cut_from (ascii "TGGT") true (some 1) 200 (finished_with false cut_into) cut_met.0 texts_met.2 cut_kept cut_met.2
+cut_rewritten = cut_accepted cut_from (ascii "TGGT") true (Some 1) 200 (finished_with false cut_into) cut_met.0 texts_met.2 cut_kept cut_met.2
 
 alone_rewritten : AloneRewritten (read_seq alone_from) am alone_from alone_to (without_calls_at (read_places alone_from (2 ∷ [])))
 alone_rewritten = drop_alone_accepted am refl alone_from 200 (finished_with false alone_to) alone_listed.is_text_lem alone_met.1 (2 ∷ []) alone_met.0 refl

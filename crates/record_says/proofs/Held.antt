@@ -1,11 +1,11 @@
 -- What an edited field holds, and what an edit of MM leaves in a record. Support for the theorems of this crate.
 -- Assumes nothing.
+use Rattle.std.specs.Prelude.{Ok, Err, Option}
 use mathlib.Core.Path.{◌≡◌, refl, sym, ap, ◌∙◌, subst}
 use Prim.Native.Nat.{ℕ, ◌+◌, ◌-◌, ◌≤◌, ◌<◌}
 use native.Mathlib.Omega.{arith}
 use mathlib.Core.Bool.{Bool, true, false, cond, not, ◌||◌, or-true}
 use mathlib.Core.List.{List, [], ◌∷◌, ◌++◌, append_assoc}
-use mathlib.Core.Option.{Option}
 use lib.Dec.{eqb}
 use lib.ListN.{get_or-append, length, take, drop, length-append}
 use lib.Seq.{drop_at, get_or-take, length-take-le, take-append_seam}
@@ -13,7 +13,7 @@ use borrow.Author.Tests.{eq-eqb, eqb-true, lt-ltb, not-true}
 use Rattle.lent.proofs.Outcome.{need_rest, need_test}
 use Rattle.lent.proofs.Tests.{and_true, and_true_l, and_true_r, by-test}
 use Rattle.lent.specs.Lists.{is_empty}
-use Rattle.lent.specs.Outcome.{Outcome, done, need, refused}
+use Rattle.lent.specs.Outcome.{Outcome, need}
 use Rattle.lent.specs.declared.Refusal.{Refusal}
 use Rattle.record_fields.proofs.Kept.{name_kept}
 use Rattle.record_fields.specs.Bam.{word_bytes}
@@ -114,11 +114,11 @@ module _ {n : ℕ} {bam : List ℕ} {new : List Field} {r : Finished} (made : Ma
         (λ e. let b : eqb k bm ≡ true = rw e at alone in rw (eqb-true k bm b))
 
     alone_by : (o : Outcome Tag) → edit false (text_of old) [] ≡ o
-        → (t : Tag) × (edit false (text_of old) [] ≡ done t) × (is_text now ≡ true) × (text_of now ≡ t.text)
-    alone_by (refused q) e =
+        → (t : Tag) × (edit false (text_of old) [] ≡ Ok t) × (is_text now ≡ true) × (text_of now ≡ t.text)
+    alone_by (Err q) e =
         absurd (named_stays m (editing edit len (fields_in bam)) (editing_sound edit tidy (fields_in bam) (old_fields made) made.fits m len lengths) is
         (rw (alone_change, text, e)))
-    alone_by (done t) e =
+    alone_by (Ok t) e =
         let first = first_is k (fields_in bam) (old_fields made) named_there in
         let long = field_long old first.0 in
         let new_is : now ≡ with_text t.text old =
@@ -129,7 +129,7 @@ module _ {n : ℕ} {bam : List ℕ} {new : List Field} {r : Finished} (made : Ma
         (t, e, ap is_text new_is ∙ text_type old long t.text text, ap text_of new_is ∙ text_held old long t.text)
 
     -- the field was edited, and holds the edited text
-    pub alone_held : (t : Tag) × (edit false (text_of old) [] ≡ done t) × (is_text now ≡ true) × (text_of now ≡ t.text)
+    pub alone_held : (t : Tag) × (edit false (text_of old) [] ≡ Ok t) × (is_text now ≡ true) × (text_of now ≡ t.text)
     alone_held = alone_by (edit false (text_of old) []) refl
 
 -- a record with a text of one of these names is tagged
@@ -160,19 +160,19 @@ mm_tagged bam text = rw (text_there (mm_of bam) text)
 module _ {n : ℕ} {bam : List ℕ} {new : List Field} {r : Finished} (made : Made n bam new r) (text : is_text (mm_of bam) ≡ true)
     (kept : keeps MM bam r.bytes ≡ true) (edit : TagEdit) (tidy : Tidy edit) (m : ℕ) (len : Option ℕ)
     (lengths : (b : Bool) → Lengths m (cond b (changes.goes ∷ []) [] ++ length_sets len)) (is : new ≡ changed (editing edit len (fields_in bam)) (fields_in bam)) where
-  mm_goes : (q : Refusal) → with_ml edit (mm_of bam) (ml_of bam) ≡ refused q → applied (editing edit len (fields_in bam) MM) (mm_of bam) ≡ []
+  mm_goes : (q : Refusal) → with_ml edit (mm_of bam) (ml_of bam) ≡ Err q → applied (editing edit len (fields_in bam) MM) (mm_of bam) ≡ []
   unfolding editing
   mm_goes q e = rw (text, e)
 
   -- MM was not removed, so its edit was done
-  pub was_done : (t : Tag) × (with_ml edit (mm_of bam) (ml_of bam) ≡ done t)
+  pub was_done : (t : Tag) × (with_ml edit (mm_of bam) (ml_of bam) ≡ Ok t)
   was_done = by (with_ml edit (mm_of bam) (ml_of bam)) refl
     where
-      by : (o : Outcome Tag) → with_ml edit (mm_of bam) (ml_of bam) ≡ o → (t : Tag) × (with_ml edit (mm_of bam) (ml_of bam) ≡ done t)
-      by (refused q) e =
+      by : (o : Outcome Tag) → with_ml edit (mm_of bam) (ml_of bam) ≡ o → (t : Tag) × (with_ml edit (mm_of bam) (ml_of bam) ≡ Ok t)
+      by (Err q) e =
           absurd (named_stays made MM text kept m (editing edit len (fields_in bam))
           (editing_sound edit tidy (fields_in bam) (old_fields made) made.fits m len lengths) is (mm_goes q e))
-      by (done t) e = (t, e)
+      by (Ok t) e = (t, e)
 
   -- and its ML, if there is one, is an array of bytes
   pub was_a_tag : has_tag bam ≡ true
@@ -183,7 +183,7 @@ module _ {n : ℕ} {bam : List ℕ} {new : List Field} {r : Finished} (made : Ma
       (by-test (is_empty (ml_of bam))
       (λ q. rw q)
       (λ q.
-      let e' : need (is_byte_array (ml_of bam)) 8 (edit true (text_of (mm_of bam)) (values_of (ml_of bam))) ≡ done t = rw q at e in
+      let e' : need (is_byte_array (ml_of bam)) 8 (edit true (text_of (mm_of bam)) (values_of (ml_of bam))) ≡ Ok t = rw q at e in
       rw (need_test (is_byte_array (ml_of bam)) 8 (edit true (text_of (mm_of bam)) (values_of (ml_of bam))) t e') (or-true (is_empty (ml_of bam)))))
 
 module _ {n : ℕ} {bam : List ℕ} {new : List Field} {r : Finished} (made : Made n bam new r) (tag : has_tag bam ≡ true)
@@ -203,19 +203,19 @@ module _ {n : ℕ} {bam : List ℕ} {new : List Field} {r : Finished} (made : Ma
     sound = editing_sound edit tidy fs (old_fields made) made.fits m len lengths
 
     -- the edit of MM with its ML, if there is one
-    edit_is : (t : Tag) → with_ml edit (mm_of bam) (ml_of bam) ≡ done t → edit (has_ml bam) (text_of (mm_of bam)) (values_of (ml_of bam)) ≡ done t
+    edit_is : (t : Tag) → with_ml edit (mm_of bam) (ml_of bam) ≡ Ok t → edit (has_ml bam) (text_of (mm_of bam)) (values_of (ml_of bam)) ≡ Ok t
     unfolding with_ml
     edit_is t e =
         by-test (is_empty (ml_of bam))
         (λ q.
-        let e' : edit false (text_of (mm_of bam)) [] ≡ done t = rw q at e in
+        let e' : edit false (text_of (mm_of bam)) [] ≡ Ok t = rw q at e in
         let none = empty_is (ml_of bam) q in
         (λ j. edit (not (is_empty (none j))) (text_of (mm_of bam)) (values_of (none j))) ∙ e')
         (λ q.
-        let e' : need (is_byte_array (ml_of bam)) 8 (edit true (text_of (mm_of bam)) (values_of (ml_of bam))) ≡ done t = rw q at e in
+        let e' : need (is_byte_array (ml_of bam)) 8 (edit true (text_of (mm_of bam)) (values_of (ml_of bam))) ≡ Ok t = rw q at e in
         rw q (need_rest (is_byte_array (ml_of bam)) 8 (edit true (text_of (mm_of bam)) (values_of (ml_of bam))) t e'))
 
-    module _ (t : Tag) (e : with_ml edit (mm_of bam) (ml_of bam) ≡ done t) where
+    module _ (t : Tag) (e : with_ml edit (mm_of bam) (ml_of bam) ≡ Ok t) where
       mm_long : 4 ≤ length (mm_of bam)
       mm_long = field_long (mm_of bam) (first_is MM fs (old_fields made) mm_there).0
 
@@ -266,7 +266,7 @@ module _ {n : ℕ} {bam : List ℕ} {new : List Field} {r : Finished} (made : Ma
       }
 
     -- MM was edited, and the new record holds the edited tag
-    pub held : (t : Tag) × (edit (has_ml bam) (text_of (mm_of bam)) (values_of (ml_of bam)) ≡ done t) × Holds bam r.bytes t
+    pub held : (t : Tag) × (edit (has_ml bam) (text_of (mm_of bam)) (values_of (ml_of bam)) ≡ Ok t) × Holds bam r.bytes t
     held = let (t, e) = was_done made mm_text kept edit tidy m len lengths is in (t, edit_is t e, holds t e)
 
   -- there is a tag

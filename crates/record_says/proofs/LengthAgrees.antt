@@ -1,17 +1,16 @@
 -- After a cut that kept MM, MN agrees with SEQ.
 -- Assumes nothing.
+use Rattle.std.specs.Prelude.{Ok, Option, None, Some}
 use mathlib.Core.Path.{◌≡◌, refl, sym, ap, ◌∙◌}
 use Prim.Native.Nat.{ℕ, ◌≤◌}
 use native.Mathlib.Omega.{arith}
 use mathlib.Core.Bool.{Bool, true, false, cond}
 use mathlib.Core.List.{List, [], ◌∷◌}
-use mathlib.Core.Option.{Option, none, some}
 use lib.Dec.{eqb}
 use lib.ListN.{length}
 use borrow.Author.Tests.{eq-eqb, eqb-true, lt-leb}
 use Rattle.lent.proofs.Tests.{by-test}
 use Rattle.lent.specs.Lists.{is_empty}
-use Rattle.lent.specs.Outcome.{done}
 use Rattle.packed.specs.Stored.{in_read}
 use Rattle.record_fields.proofs.Kept.{name_kept, word_of_bytes}
 use Rattle.record_fields.specs.Bam.{is_reverse, packed_seq, seq_length, word_bytes}
@@ -44,7 +43,7 @@ no_integer : (n : ℕ) (f : Field) → is_integer f ≡ false → disagrees n f 
 no_integer n f e = rw e
 
 mn_changes : (edit : TagEdit) (len : Option ℕ) (fs : List Field) (t : Tag) → is_text (first_named MM fs) ≡ true
-    → with_ml edit (first_named MM fs) (first_named 1 fs) ≡ done t → editing edit len fs MN ≡ length_sets len
+    → with_ml edit (first_named MM fs) (first_named 1 fs) ≡ Ok t → editing edit len fs MN ≡ length_sets len
 unfolding editing
 mn_changes edit len fs t text e = rw (text, e)
 
@@ -66,7 +65,7 @@ unfolding cut_fields
 cut_disagrees reverse n packed before before-reverse start fs t s d = rw (t, some_bases reverse n packed before before-reverse start s, d)
 
 module _ (bam before : List ℕ) (before-reverse : Bool) (start : Option ℕ) (room : ℕ) (r : Finished)
-    (e : cut_record bam before before-reverse start room ≡ done r) (tag : has_tag bam ≡ true) (kept : keeps MM bam r.bytes ≡ true)
+    (e : cut_record bam before before-reverse start room ≡ Ok r) (tag : has_tag bam ≡ true) (kept : keeps MM bam r.bytes ≡ true)
     (differs : same_bytes_of (turned_letters before-reverse before) (read_seq bam) ≡ false) where
   abbrev n : ℕ
   n = seq_length bam
@@ -75,7 +74,7 @@ module _ (bam before : List ℕ) (before-reverse : Bool) (start : Option ℕ) (r
   fs = fields_in bam
 
   abbrev len : Option ℕ
-  len = cond (eqb (length before) n) none (some n)
+  len = cond (eqb (length before) n) None (Some n)
 
   made : Made 3 bam (cut_fields (is_reverse bam) n (packed_seq bam) before before-reverse start fs) r
   made = cut_made bam before before-reverse start room r e
@@ -128,6 +127,6 @@ module _ (bam before : List ℕ) (before-reverse : Bool) (start : Option ℕ) (r
 
 -- After a cut that changed SEQ and kept MM, the record's MN, if it has one, says the length of SEQ.
 pub cut_length : (bam before : List ℕ) (before-reverse : Bool) (start : Option ℕ) (room : ℕ) (r : Finished)
-    → cut_record bam before before-reverse start room ≡ done r → has_tag bam ≡ true → keeps MM bam r.bytes ≡ true
+    → cut_record bam before before-reverse start room ≡ Ok r → has_tag bam ≡ true → keeps MM bam r.bytes ≡ true
     → same_bytes_of (turned_letters before-reverse before) (read_seq bam) ≡ false → disagrees (seq_length r.bytes) (mn_of r.bytes) ≡ false
 cut_length = cut_agrees

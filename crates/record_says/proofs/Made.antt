@@ -1,11 +1,11 @@
 -- A call on a record that was done, taken apart: the fields that came, those that it leaves, and the bytes. Support for the theorems of this crate.
 -- Assumes nothing.
+use Rattle.std.specs.Prelude.{Ok, Option}
 use mathlib.Core.Path.{◌≡◌, sym, ap, ◌∙◌, subst}
 use Prim.Native.Nat.{ℕ, ◌+◌, ◌-◌, ◌*◌, ◌/◌, ◌%◌, ◌≤◌, ◌<◌}
 use native.Mathlib.Omega.{arith}
 use mathlib.Core.Bool.{Bool, true, ◌&&◌}
 use mathlib.Core.List.{List, ◌++◌}
-use mathlib.Core.Option.{Option}
 use lib.Dec.{leb, eqb}
 use lib.ListN.{length, get_or, take, drop, length-append, length-drop, take-append-drop}
 use lib.Seq.{drop_at, get_or-take, length-take-le, take-append_seam, take-take}
@@ -14,7 +14,6 @@ use Rattle.lent.proofs.Lists.{drop_take}
 use Rattle.lent.proofs.Outcome.{and_then_inv, done_inj, need_rest, need_test}
 use Rattle.lent.proofs.Tests.{and_true, and_true_l, and_true_r}
 use Rattle.lent.specs.Lists.{every}
-use Rattle.lent.specs.Outcome.{done}
 use Rattle.packed.specs.Packed.{bytes_for}
 use Rattle.record_fields.proofs.Inverse.{fields_each, fields_joined, joined_fields}
 use Rattle.record_fields.specs.Bam.{half, head_size, is_reverse, is_whole, packed_seq, seq_length, seq_start}
@@ -62,13 +61,13 @@ module _ (old new : List ℕ) (same : take (head_size old) new ≡ take (head_si
 -- new are the fields of the new record, which take at most n bytes more
 pub record Made (n : ℕ) (bam : List ℕ) (new : List Field) (r : Finished) : Type 0 where
   pub whole : is_whole bam ≡ true
-  pub parsed : fields (tail bam) ≡ done (fields_in bam)
+  pub parsed : fields (tail bam) ≡ Ok (fields_in bam)
   pub short : seq_length bam ≤ 16000
   pub fits : array_fits (first_named ML (fields_in bam)) ≡ true
   pub each : Each n (fields_in bam) new
   pub is : r ≡ finished bam (fields_in bam) new
 
-pub parsed_are : (bytes : List ℕ) (fs : List Field) → fields bytes ≡ done fs → fs ≡ fields_of bytes
+pub parsed_are : (bytes : List ℕ) (fs : List Field) → fields bytes ≡ Ok fs → fs ≡ fields_of bytes
 unfolding fields_of
 parsed_are bytes fs e = rw e
 
@@ -92,7 +91,7 @@ seq_short n k fs h =
     (and_true_l (a && b && c && d && e) (text_fits (first_named bm fs)) h)))))
 
 made : (n : ℕ) (bam : List ℕ) (k room : ℕ) (new : List Field → List Field)
-    → ((fs : List Field) → every is_field fs ≡ true → array_fits (first_named ML fs) ≡ true → Each n fs (new fs)) → (r : Finished) → remade bam k room new ≡ done r
+    → ((fs : List Field) → every is_field fs ≡ true → array_fits (first_named ML fs) ≡ true → Each n fs (new fs)) → (r : Finished) → remade bam k room new ≡ Ok r
     → Made n bam (new (fields_in bam)) r
 unfolding remade
 made n bam k room new each r e =
@@ -105,27 +104,27 @@ made n bam k room new each r e =
     let fits = array_fits_lem (seq_length bam) k fs domain in
     record {
       whole = whole;
-      parsed = parsed ∙ ap done same;
+      parsed = parsed ∙ ap Ok same;
       short = seq_short (seq_length bam) k fs domain;
       fits = subst (λ (l : List Field). array_fits (first_named ML l) ≡ true) same fits;
       each = subst (λ (l : List Field). Each n l (new l)) same (each fs (fields_each (tail bam) fs parsed) fits);
       is = sym is ∙ ap (λ (l : List Field). finished bam l (new l)) same;
     }
 
-pub mask_made : (bam before : List ℕ) (room : ℕ) (r : Finished) → mask_record bam before room ≡ done r → Made 0 bam (masked_fields bam before) r
+pub mask_made : (bam before : List ℕ) (room : ℕ) (r : Finished) → mask_record bam before room ≡ Ok r → Made 0 bam (masked_fields bam before) r
 unfolding mask_record
 mask_made bam before room r e =
     made 0 bam (length before) room (mask_fields (is_reverse bam) (seq_length bam) (packed_seq bam) before)
     (λ fs are fits. mask_each fs are fits (is_reverse bam) (seq_length bam) (packed_seq bam) before) r e
 
-pub drop_made : (bam places : List ℕ) (room : ℕ) (r : Finished) → drop_record bam places room ≡ done r → Made 0 bam (dropped_fields bam places) r
+pub drop_made : (bam places : List ℕ) (room : ℕ) (r : Finished) → drop_record bam places room ≡ Ok r → Made 0 bam (dropped_fields bam places) r
 unfolding drop_record
 drop_made bam places room r e =
     made 0 bam 0 room (drop_fields (is_reverse bam) (seq_length bam) (packed_seq bam) places)
     (λ fs are fits. drop_each fs are fits (is_reverse bam) (seq_length bam) (packed_seq bam) places) r e
 
 pub cut_made : (bam before : List ℕ) (before-reverse : Bool) (start : Option ℕ) (room : ℕ) (r : Finished)
-    → cut_record bam before before-reverse start room ≡ done r → Made 3 bam (cut_fields_of bam before before-reverse start) r
+    → cut_record bam before before-reverse start room ≡ Ok r → Made 3 bam (cut_fields_of bam before before-reverse start) r
 unfolding cut_record
 cut_made bam before before-reverse start room r e =
     made 3 bam (length before) room (cut_fields (is_reverse bam) (seq_length bam) (packed_seq bam) before before-reverse start)
@@ -157,7 +156,7 @@ module _ {n : ℕ} {bam : List ℕ} {new : List Field} {r : Finished} (m : Made 
   tail_is : tail r.bytes ≡ joined new
   tail_is = (λ j. drop (size_same j) (bytes_are j)) ∙ drop_at (take (head_size bam) bam) (joined new) (head_size bam) head_long
 
-  pub tail_parses : fields (tail r.bytes) ≡ done new
+  pub tail_parses : fields (tail r.bytes) ≡ Ok new
   tail_parses = ap fields tail_is ∙ fields_joined new (each_fields m.each old_fields)
 
   pub fields_are : fields_in r.bytes ≡ new

@@ -1,6 +1,7 @@
 -- An edited text has no NUL if the text had none: its headers are parts of the text, and everything else in it is digits, commas and semicolons. Support
 -- for the theorems of this crate.
 -- Assumes nothing.
+use Rattle.std.specs.Prelude.{Ok}
 use mathlib.Core.Path.{◌≡◌, refl, ap, ◌∙◌, subst}
 use Prim.Native.Nat.{ℕ, ◌-◌}
 use native.Mathlib.Omega.{arith}
@@ -14,7 +15,6 @@ use Rattle.lent.proofs.Lists.{every_append, every_imp}
 use Rattle.lent.proofs.Outcome.{and_then_inv, done_inj}
 use Rattle.lent.proofs.Tests.{and_true, and_true_l, and_true_r}
 use Rattle.lent.specs.Lists.{among, every, is_empty}
-use Rattle.lent.specs.Outcome.{done}
 use Rattle.record_fields.proofs.Kept.{text_field}
 use Rattle.record_fields.specs.Fields.{Field, is_field}
 use Rattle.record_tags.specs.Values.{is_text}
@@ -74,7 +74,7 @@ text_lacks e (g ∷ gs) h =
     (text_lacks e gs (and_true_r (lacks 0 g.header) (every (λ (g : Group). lacks 0 g.header) gs) h))
 
 -- an edit of a text without a NUL gives none
-pub edited_lacks : (e : Edit) (ml? : Bool) (seq text ml : List ℕ) (r : Tag) → edited e ml? seq text ml ≡ done r → lacks 0 text ≡ true → among r.text 0 ≡ false
+pub edited_lacks : (e : Edit) (ml? : Bool) (seq text ml : List ℕ) (r : Tag) → edited e ml? seq text ml ≡ Ok r → lacks 0 text ≡ true → among r.text 0 ≡ false
 unfolding edited written
 edited_lacks e ml? seq text ml r o h =
     let (gs, reads, is) = and_then_inv (read ml? e.dropped seq text ml) _ r o in

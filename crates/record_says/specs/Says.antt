@@ -1,9 +1,8 @@
 -- What the theorems about the three calls on a record say.
 -- Assumes nothing.
-use Rattle.std.specs.Prelude.{◌≡◌, ℕ, Bool, true, false, not, ◌&&◌, ◌||◌, List, [], ◌∷◌, map, leb, eqb, length, take, drop}
-use Rattle.std.proofs.Math.Option.{Option}
+use Rattle.std.specs.Prelude.{◌≡◌, ℕ, Bool, true, false, not, ◌&&◌, ◌||◌, List, [], ◌∷◌, map, leb, eqb, length, take, drop, Ok, Option}
 use Rattle.lent.specs.Lists.{every, filter, is_empty}
-use Rattle.lent.specs.Outcome.{Outcome, and_then, done}
+use Rattle.lent.specs.Outcome.{Outcome, and_then}
 use Rattle.packed.specs.Packed.{unpack}
 use Rattle.packed.specs.Stored.{in_read, places_in_read}
 use Rattle.record_fields.specs.Bam.{head_size, is_reverse, is_whole, packed_seq, seq_length}
@@ -55,9 +54,9 @@ cut_fields_of bam before before-reverse start = cut_fields (is_reverse bam) (seq
 
 -- One of the three calls on the record was done, and this is the new record.
 pub data Remade (bam : List ℕ) (r : Finished) : Type 0 where
-  masked : (before : List ℕ) (room : ℕ) → mask_record bam before room ≡ done r → Remade bam r
-  dropped : (places : List ℕ) (room : ℕ) → drop_record bam places room ≡ done r → Remade bam r
-  cut : (before : List ℕ) (before-reverse : Bool) (start : Option ℕ) (room : ℕ) → cut_record bam before before-reverse start room ≡ done r → Remade bam r
+  masked : (before : List ℕ) (room : ℕ) → mask_record bam before room ≡ Ok r → Remade bam r
+  dropped : (places : List ℕ) (room : ℕ) → drop_record bam places room ≡ Ok r → Remade bam r
+  cut : (before : List ℕ) (before-reverse : Bool) (start : Option ℕ) (room : ℕ) → cut_record bam before before-reverse start room ≡ Ok r → Remade bam r
 
 -- Everything before the fields is as it was, and so are the fields of every other name, in the same order.
 pub record Untouched (old new : List ℕ) : Type 0 where
@@ -71,7 +70,7 @@ pub record Untouched (old new : List ℕ) : Type 0 where
 -- The record is whole, and its fields parse to these.
 pub record ParsesTo (bam : List ℕ) (fs : List Field) : Type 0 where
   pub whole : is_whole bam ≡ true
-  pub parsed : fields (tail bam) ≡ done fs
+  pub parsed : fields (tail bam) ≡ Ok fs
 
 -- how many fields have the name
 abbrev pub times : ℕ → List Field → ℕ
@@ -113,7 +112,7 @@ tag_lists seq bam = lists (has_ml bam) seq (text_of (mm_of bam)) (values_of (ml_
 -- The record has a tag, which the reader accepts over a SEQ in read orientation, and which lists this.
 pub record ListsOver (seq bam : List ℕ) (ls : List Listing) : Type 0 where
   pub tagged : has_tag bam ≡ true
-  pub listed : tag_lists seq bam ≡ done ls
+  pub listed : tag_lists seq bam ≡ Ok ls
 
 -- A tag was edited: the reader accepted the old one over SEQ as it was, and accepts the new one over SEQ as it is now. What a group lists now is f of what it
 -- listed.
@@ -125,7 +124,7 @@ pub record Rewritten (seq old new : List ℕ) (f : Listing → Listing) : Type 0
 -- am or bm is a text, which the reader accepts without ML over a SEQ in read orientation, and which lists this.
 pub record AloneListsOver (seq : List ℕ) (k : ℕ) (bam : List ℕ) (ls : List Listing) : Type 0 where
   pub is_text_lem : is_text (first_named k (fields_in bam)) ≡ true
-  pub listed : lists false seq (text_of (first_named k (fields_in bam))) [] ≡ done ls
+  pub listed : lists false seq (text_of (first_named k (fields_in bam))) [] ≡ Ok ls
 
 -- am or bm was edited, as MM above
 pub record AloneRewritten (seq : List ℕ) (k : ℕ) (old new : List ℕ) (f : Listing → Listing) : Type 0 where

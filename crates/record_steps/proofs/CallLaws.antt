@@ -1,10 +1,10 @@
 -- The three calls on a record that was opened, case by case.
 -- Assumes nothing.
+use Rattle.std.specs.Prelude.{Option, None}
 use mathlib.Core.Path.{◌≡◌, sym, ap, ◌∙◌}
 use Prim.Native.Nat.{ℕ}
 use mathlib.Core.Bool.{Bool, true, false, ◌&&◌}
 use mathlib.Core.List.{List}
-use mathlib.Core.Option.{Option, none}
 use lib.Dec.{eqb}
 use lib.ListN.{length, drop}
 use Rattle.lent.specs.Answers.{is_done}
@@ -65,9 +65,9 @@ module _ (bam : List ℕ) (k : ℕ) (whole : is_whole bam ≡ true) (parsed : is
 
         pub mask_edited : same_bytes_of before (unpack n (packed_seq bam)) ≡ false
             → mask_record bam before room
-            ≡ becomes (changed (editing (mask_edit (turned_letters (is_reverse bam) before) (in_read (is_reverse bam) n (packed_seq bam))) none fs) fs)
+            ≡ becomes (changed (editing (mask_edit (turned_letters (is_reverse bam) before) (in_read (is_reverse bam) n (packed_seq bam))) None fs) fs)
         unfolding mask_fields
-        mask_edited e = mask_opened ∙ became (mask_fields (is_reverse bam) n (packed_seq bam) before fs) (changed (editing (mask_edit (turned_letters (is_reverse bam) before) (in_read (is_reverse bam) n (packed_seq bam))) none fs) fs) (rw (tagged, fresh, e))
+        mask_edited e = mask_opened ∙ became (mask_fields (is_reverse bam) n (packed_seq bam) before fs) (changed (editing (mask_edit (turned_letters (is_reverse bam) before) (in_read (is_reverse bam) n (packed_seq bam))) None fs) fs) (rw (tagged, fresh, e))
 
   -- ---- dropping
 
@@ -92,9 +92,9 @@ module _ (bam : List ℕ) (k : ℕ) (whole : is_whole bam ≡ true) (parsed : is
 
         pub drop_edited : disagrees n (first_named MN fs) ≡ false
             → drop_record bam places room
-            ≡ becomes (changed (editing (drop_edit (in_read (is_reverse bam) n (packed_seq bam)) (places_in_read (is_reverse bam) n places)) none fs) fs)
+            ≡ becomes (changed (editing (drop_edit (in_read (is_reverse bam) n (packed_seq bam)) (places_in_read (is_reverse bam) n places)) None fs) fs)
         unfolding drop_fields
-        drop_edited s = drop_opened ∙ became (drop_fields (is_reverse bam) n (packed_seq bam) places fs) (changed (editing (drop_edit (in_read (is_reverse bam) n (packed_seq bam)) (places_in_read (is_reverse bam) n places)) none fs) fs) (rw (some-place, tagged, s))
+        drop_edited s = drop_opened ∙ became (drop_fields (is_reverse bam) n (packed_seq bam) places fs) (changed (editing (drop_edit (in_read (is_reverse bam) n (packed_seq bam)) (places_in_read (is_reverse bam) n places)) None fs) fs) (rw (some-place, tagged, s))
 
   -- ---- cutting
 

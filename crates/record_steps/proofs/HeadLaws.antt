@@ -1,11 +1,11 @@
 -- What the code works with, which it reads off the head and finds in its rows, is what the definitions say.
 -- Assumes nothing.
+use Rattle.std.specs.Prelude.{Ok, Option, None, Some}
 use mathlib.Core.Path.{◌≡◌, refl, sym, ap, ◌∙◌, subst}
 use Prim.Native.Nat.{ℕ, ◌+◌, ◌≤◌, ◌<◌}
 use native.Mathlib.Omega.{arith}
 use mathlib.Core.Bool.{Bool, true, false, cond, not, ◌&&◌, ◌||◌}
 use mathlib.Core.List.{List, [], ◌∷◌}
-use mathlib.Core.Option.{Option, none, some}
 use lib.Dec.{leb, eqb}
 use lib.ListN.{length, get_or, take, drop}
 use borrow.Author.Tests.{ne_eqb}
@@ -22,7 +22,6 @@ use Rattle.record_fates.proofs.OpeningLaws.{whole_fits}
 use Rattle.lent.specs.Answers.{is_done}
 use Rattle.record_fates.proofs.FateLaws.{opened_inside}
 use Rattle.record_fates.specs.Fates.{HeadRead, OpenedAs, guarded}
-use Rattle.record_fates.specs.declared.Opened.TheVariants.{To}
 use Rattle.record_fields.proofs.SpotLaws.{spot_size}
 use Rattle.record_fields.specs.Bam.{head_size, is_reverse, is_whole, packed_seq, seq_length}
 use Rattle.record_fields.specs.Fields.{Field, fields, fields_of, first_named}
@@ -76,8 +75,8 @@ module _ (bam : List ℕ) (h : Head) (r : HeadRead bam h) where
 
   pub masked_is : (room : ℕ) (before p q : List ℕ) → p ≡ turned_letters h.reverse before
       → q ≡ in_read h.reverse h.bases (part bam h.seq_at (bytes_for h.bases))
-      → made room h.fields_at (guarded (eqb (length before) h.bases) (by_window 0 q [] p)) none
-      ≡ made room (head_size bam) (mask_edit (turned_letters (is_reverse bam) before) (in_read (is_reverse bam) (seq_length bam) (packed_seq bam))) none
+      → made room h.fields_at (guarded (eqb (length before) h.bases) (by_window 0 q [] p)) None
+      ≡ made room (head_size bam) (mask_edit (turned_letters (is_reverse bam) before) (in_read (is_reverse bam) (seq_length bam) (packed_seq bam))) None
   masked_is room before p q e f =
       let old = turned_letters (is_reverse bam) before in
       let new = in_read (is_reverse bam) (seq_length bam) (packed_seq bam) in
@@ -86,14 +85,14 @@ module _ (bam : List ℕ) (h : Head) (r : HeadRead bam h) where
       let first : p ≡ old = e ∙ ap (λ (t : Bool). turned_letters t before) r.0 in
       let edit : guarded (eqb (length before) h.bases) (by_window 0 q [] p) ≡ mask_edit old new =
       (λ j. guarded (possible j) (by_window 0 ((f ∙ seq_read) j) [] (first j))) ∙ mask_edit_lem old new in
-      λ j. made room (r.3 j) (edit j) none
+      λ j. made room (r.3 j) (edit j) None
 
   -- ---- dropping
 
   pub dropped_is : (room : ℕ) (places marks marks' q : List ℕ) → q ≡ in_read h.reverse h.bases (part bam h.seq_at (bytes_for h.bases))
       → marks' ≡ stored_at 1 (places_in_read h.reverse h.bases places) marks → seq_length bam ≤ length marks → ((p : ℕ) → is_marked marks p ≡ false)
-      → made room h.fields_at (guarded true (by_window 0 q marks' q)) none
-      ≡ made room (head_size bam) (drop_edit (in_read (is_reverse bam) (seq_length bam) (packed_seq bam)) (places_in_read (is_reverse bam) (seq_length bam) places)) none
+      → made room h.fields_at (guarded true (by_window 0 q marks' q)) None
+      ≡ made room (head_size bam) (drop_edit (in_read (is_reverse bam) (seq_length bam) (packed_seq bam)) (places_in_read (is_reverse bam) (seq_length bam) places)) None
   dropped_is room places marks marks' q f g l u =
       let new = in_read (is_reverse bam) (seq_length bam) (packed_seq bam) in
       let there = places_in_read (is_reverse bam) (seq_length bam) places in
@@ -102,29 +101,29 @@ module _ (bam : List ℕ) (h : Head) (r : HeadRead bam h) where
       let long : length new ≤ length marks = omega (arith, l, length_in_read (is_reverse bam) (seq_length bam) (packed_seq bam)) in
       let edit : guarded true (by_window 0 q marks' q) ≡ drop_edit new there =
       (λ j. guarded true (by_window 0 (seq j) (marked j) (seq j))) ∙ drop_edit_lem new there marks long u in
-      λ j. made room (r.3 j) (edit j) none
+      λ j. made room (r.3 j) (edit j) None
 
   -- ---- cutting
 
-  set_is : (a b : ℕ) (t : Bool) → t ≡ not (eqb a b) → (x : ℕ) → cond t (some x) none ≡ cond (eqb a b) none (some x)
+  set_is : (a b : ℕ) (t : Bool) → t ≡ not (eqb a b) → (x : ℕ) → cond t (Some x) None ≡ cond (eqb a b) None (Some x)
   set_is a b t e x = rw e (go (eqb a b))
     where
-      go : (u : Bool) → cond (not u) (some x) none ≡ cond u none (some x)
+      go : (u : Bool) → cond (not u) (Some x) None ≡ cond u None (Some x)
       go true = refl
       go false = refl
 
   pub cut_is_made : (room lo : ℕ) (old new : List ℕ) (t : Bool) → t ≡ not (eqb (length old) (length new)) → length new ≡ seq_length bam
-      → made room h.fields_at (guarded true (by_window lo new [] old)) (cond t (some h.bases) none)
-      ≡ made room (head_size bam) (cut_edit lo old new) (cond (eqb (length old) (seq_length bam)) none (some (seq_length bam)))
+      → made room h.fields_at (guarded true (by_window lo new [] old)) (cond t (Some h.bases) None)
+      ≡ made room (head_size bam) (cut_edit lo old new) (cond (eqb (length old) (seq_length bam)) None (Some (seq_length bam)))
   cut_is_made room lo old new t e l =
-      let length-set : cond t (some h.bases) none ≡ cond (eqb (length old) (seq_length bam)) none (some (seq_length bam)) =
-      ap (λ (x : ℕ). cond t (some x) none) r.1 ∙ set_is (length old) (length new) t e (seq_length bam)
-      ∙ ap (λ (x : ℕ). cond (eqb (length old) x) none (some (seq_length bam))) l in
+      let length-set : cond t (Some h.bases) None ≡ cond (eqb (length old) (seq_length bam)) None (Some (seq_length bam)) =
+      ap (λ (x : ℕ). cond t (Some x) None) r.1 ∙ set_is (length old) (length new) t e (seq_length bam)
+      ∙ ap (λ (x : ℕ). cond (eqb (length old) x) None (Some (seq_length bam))) l in
       λ j. made room (r.3 j) (cut_edit_lem lo old new j) (length-set j)
 
 -- ---- what the calls on an opened record need
 
-module _ (bam : List ℕ) (k : ℕ) (ats sizes : List ℕ) (h : Head) (o : OpenedAs bam k ats sizes (To h)) where
+module _ (bam : List ℕ) (k : ℕ) (ats sizes : List ℕ) (h : Head) (o : OpenedAs bam k ats sizes (Ok h)) where
   pub begins : h.fields_at ≤ length bam
   begins = let all = (whole_fits bam o.0).1 in let at = o.1.3 in omega (arith, all, at)
 
@@ -155,16 +154,16 @@ module _ (bam : List ℕ) (k : ℕ) (ats sizes : List ℕ) (h : Head) (o : Opene
 -- ---- the fields after a cut, case by case
 
 module _ (bam old new : List ℕ) (fs : List Field) where
-  pub cut_unknown : (start : Option ℕ) → none ≡ start → cut_turned bam old new start fs ≡ changed removal fs
+  pub cut_unknown : (start : Option ℕ) → None ≡ start → cut_turned bam old new start fs ≡ changed removal fs
   cut_unknown start e = rw (← e)
 
-  pub cut_unlike : (start : Option ℕ) (lo : ℕ) → some lo ≡ start → leb lo (length old) && lies_in new (drop lo old) ≡ false
+  pub cut_unlike : (start : Option ℕ) (lo : ℕ) → Some lo ≡ start → leb lo (length old) && lies_in new (drop lo old) ≡ false
       → cut_turned bam old new start fs ≡ changed removal fs
   cut_unlike start lo e w = rw (← e, w)
 
-  pub cut_to : (start : Option ℕ) (lo : ℕ) → some lo ≡ start → leb lo (length old) && lies_in new (drop lo old) ≡ true
+  pub cut_to : (start : Option ℕ) (lo : ℕ) → Some lo ≡ start → leb lo (length old) && lies_in new (drop lo old) ≡ true
       → cut_turned bam old new start fs
-      ≡ changed (editing (cut_edit lo old new) (cond (eqb (length old) (seq_length bam)) none (some (seq_length bam))) fs) fs
+      ≡ changed (editing (cut_edit lo old new) (cond (eqb (length old) (seq_length bam)) None (Some (seq_length bam))) fs) fs
   cut_to start lo e w = rw (← e, w)
 
 -- ---- the answer and the row, by the outcome; the outcome, by the new fields

@@ -2,8 +2,7 @@
 // are in `record`.
 #![tactic(auto)]
 
-ghost use Rattle.std.specs.Prelude.{◌≡◌, ◌&&◌, cond, false, true, List, ℕ, ◌+◌, ◌≤◌, eqb, drop, length};
-ghost use Rattle.std.proofs.Math.Option.{some};
+ghost use Rattle.std.specs.Prelude.{◌≡◌, ◌&&◌, cond, false, true, List, ℕ, ◌+◌, ◌≤◌, eqb, drop, length, Ok, Some};
 ghost use Rattle.record_steps.specs.Cuts.{cut_turned};
 ghost use Rattle.changing.specs.Windows.{Unmarked};
 ghost use Rattle.lent.specs.Filled.{over};
@@ -11,19 +10,17 @@ ghost use Rattle.lent.specs.Lists.{is_empty};
 ghost use Rattle.packed.specs.Packed.{bytes_for};
 ghost use Rattle.packed.specs.Stored.{in_read};
 ghost use Rattle.record_fates.specs.Fates.{OpenedAs};
-ghost use Rattle.record_fates.specs.declared.Opened.TheVariants.{To};
 ghost use Rattle.record_fields.specs.Bam.{head_size, seq_length};
 ghost use Rattle.record_fields.specs.Fields.{Field, MN, fields_of, first_named};
 ghost use Rattle.record_fields.specs.Spots.{Spots, part};
 ghost use Rattle.record_tags.specs.Changes.{is_tagged};
 ghost use Rattle.record_tags.specs.Records.{cut_record, drop_record, finished, in_room, mask_record, same_direction, start_of};
 ghost use Rattle.record_tags.specs.Values.{disagrees};
-ghost use Rattle.record_writing.specs.Answers.{leaves_record, left, record_says};
-ghost use Rattle.rewriting.specs.Starts.{start_says};
+ghost use Rattle.record_writing.specs.Answers.{leaves_record, left};
 
+use lent::Refusal;
 use record_fields::{AM, BM, Head, MM};
-use record_writing::whole::{Recorded, keep_record};
-use rewriting::WindowStart;
+use record_writing::whole::keep_record;
 
 // Unpacks SEQ to the front of a row, reverse-complemented or not.
 fn unpack_seq(bam: &[u8], at: usize, n: usize, turned: bool, row: &mut [u8])
@@ -45,12 +42,12 @@ pub fn mask_with(
     second: &mut [u8],
     work: &mut [u8],
     out: &mut [u8],
-) -> Recorded
-    requires opened_as { OpenedAs bam.now (length before.now) ats.now sizes.now (To head) }
+) -> Result<(usize, bool), Refusal>
+    requires opened_as { OpenedAs bam.now (length before.now) ats.now sizes.now (Ok head) }
     requires bam_value { (is_tagged (fields_of (drop (head_size bam.now) bam.now)) ≡ true)
         × (disagrees (seq_length bam.now) (first_named MN (fields_of (drop (head_size bam.now) bam.now))) ≡ false)
         × (length before.now ≤ length first.old) × (seq_length bam.now ≤ length second.old) }
-    ensures { left (record_says result) out.new
+    ensures { left result out.new
         ≡ leaves_record (mask_record bam.now before.now (length out.old)) out.old }
 {
     let n = head.bases;
@@ -91,12 +88,12 @@ pub fn drop_with(
     marks: &mut [u8],
     work: &mut [u8],
     out: &mut [u8],
-) -> Recorded
-    requires opened_as { OpenedAs bam.now 0 ats.now sizes.now (To head) }
+) -> Result<(usize, bool), Refusal>
+    requires opened_as { OpenedAs bam.now 0 ats.now sizes.now (Ok head) }
     requires bam_value { (is_tagged (fields_of (drop (head_size bam.now) bam.now)) ≡ true) × (is_empty places.now ≡ false)
         × (disagrees (seq_length bam.now) (first_named MN (fields_of (drop (head_size bam.now) bam.now))) ≡ false)
         × (seq_length bam.now ≤ length row.old) × (seq_length bam.now ≤ length marks.old) × Unmarked (length marks.old) marks.old }
-    ensures { left (record_says result) out.new
+    ensures { left result out.new
         ≡ leaves_record (drop_record bam.now places.now (length out.old)) out.old }
 {
     let n = head.bases;
@@ -131,20 +128,20 @@ fn same_direction(reverse: bool, before_reverse: bool) -> bool
 
 // The start of the window in read orientation; unknown if the read was stored in the other direction.
 fn start_of(
-    start: WindowStart,
+    start: Option<usize>,
     reverse: bool,
     before_reverse: bool,
     k: usize,
     n: usize,
-) -> WindowStart
-    ensures { start_says result ≡ cond (eqb k n) (some 0) (start_of reverse before_reverse k n (start_says start)) }
+) -> Option<usize>
+    ensures { result ≡ cond (eqb k n) (Some 0) (start_of reverse before_reverse k n start) }
 {
     if k == n {
-        return WindowStart::Known(0);
+        return Some(0);
     }
     let same = same_direction(reverse, before_reverse);
     if !same {
-        return WindowStart::Unknown;
+        return None;
     }
     stored_rows::start_in_read(start, reverse, k, n)
 }
@@ -157,18 +154,18 @@ pub fn cut_turned(
     sizes: &[usize; 6],
     old: &[u8],
     new: &[u8],
-    start: WindowStart,
+    start: Option<usize>,
     work: &mut [u8],
     out: &mut [u8],
-) -> Recorded
-    requires opened_as { OpenedAs bam.now (length old.now) ats.now sizes.now (To head) }
+) -> Result<(usize, bool), Refusal>
+    requires opened_as { OpenedAs bam.now (length old.now) ats.now sizes.now (Ok head) }
     requires bam_value { (is_tagged (fields_of (drop (head_size bam.now) bam.now)) ≡ true) × (length new.now ≡ seq_length bam.now) }
-    ensures { left (record_says result) out.new
+    ensures { left result out.new
         ≡ leaves_record (in_room (length out.old) (finished bam.now (fields_of (drop (head_size bam.now) bam.now))
-        (cut_turned bam.now old.now new.now (start_says start) (fields_of (drop (head_size bam.now) bam.now)))))
+        (cut_turned bam.now old.now new.now start (fields_of (drop (head_size bam.now) bam.now)))))
         out.old }
 {
-    let WindowStart::Known(lo) = start else {
+    let Some(lo) = start else {
         return record_edits::remove_record(bam, head.fields_at, out);
     };
     let window = windows::lies_in(new, old, lo);
@@ -201,19 +198,19 @@ pub fn cut_with(
     sizes: &[usize; 6],
     before: &[u8],
     before_reverse: bool,
-    start: WindowStart,
+    start: Option<usize>,
     first: &mut [u8],
     second: &mut [u8],
     work: &mut [u8],
     out: &mut [u8],
-) -> Recorded
-    requires opened_as { OpenedAs bam.now (length before.now) ats.now sizes.now (To head) }
+) -> Result<(usize, bool), Refusal>
+    requires opened_as { OpenedAs bam.now (length before.now) ats.now sizes.now (Ok head) }
     requires bam_value { (is_tagged (fields_of (drop (head_size bam.now) bam.now)) ≡ true)
         × (disagrees (length before.now) (first_named MN (fields_of (drop (head_size bam.now) bam.now))) ≡ false)
         × (is_empty before.now && eqb (seq_length bam.now) 0 ≡ false)
         × (length before.now ≤ length first.old) × (seq_length bam.now ≤ length second.old) }
-    ensures { left (record_says result) out.new
-        ≡ leaves_record (cut_record bam.now before.now before_reverse (start_says start) (length out.old)) out.old }
+    ensures { left result out.new
+        ≡ leaves_record (cut_record bam.now before.now before_reverse start (length out.old)) out.old }
 {
     let n = head.bases;
     let k = before.len();

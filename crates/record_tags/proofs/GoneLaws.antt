@@ -1,5 +1,6 @@
 -- Whether a field goes: there are fewer fields exactly if the plan lets a field go that is there.
 -- Assumes nothing.
+use Rattle.std.specs.Prelude.{Ok, Err}
 use mathlib.Core.Path.{◌≡◌, refl, sym, ap, ◌∙◌, subst}
 use Prim.Native.Nat.{ℕ, suc, ◌+◌, ◌≤◌, ◌<◌}
 use native.Mathlib.Omega.{arith}
@@ -12,7 +13,7 @@ use borrow.Author.Tests.{eqb-false, eqb-true}
 use Rattle.lent.proofs.Tests.{and_true_l, by-test}
 use Rattle.lent.specs.Answers.{is_done}
 use Rattle.lent.specs.Lists.{is_empty}
-use Rattle.lent.specs.Outcome.{Outcome, refused, done}
+use Rattle.lent.specs.Outcome.{Outcome}
 use Rattle.record_fields.specs.Fields.{Field, first_named, name_of}
 use Rattle.record_tags.proofs.GrowthLaws.{name_small}
 use Rattle.record_tags.proofs.PlanLaws.{first_later, planned_next, ready_here, ready_next}
@@ -25,8 +26,8 @@ abbrev pub lets_go : ℕ → Bool
 lets_go a = eqb a 1 || eqb a 6
 
 one : (g : Tag → Field) (o : Outcome Tag) → is_done o ≡ true → length (or_goes g o) ≡ 1
-one g (refused r) h = let z : ◌≡◌ {A = ℕ} 0 1 = cc in absurd (omega arith)
-one g (done t) h = refl
+one g (Err r) h = let z : ◌≡◌ {A = ℕ} 0 1 = cc in absurd (omega arith)
+one g (Ok t) h = refl
 
 set_one : (n : ℕ) (f : Field) → length (length_set n f) ≡ 1
 set_one n f = by-test (is_integer f) (λ e. rw e) (λ e. rw e)

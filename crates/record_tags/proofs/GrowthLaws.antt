@@ -1,5 +1,6 @@
 -- How much a record can grow: an edited tag is never longer than it was, and MN may take three bytes more.
 -- Assumes nothing.
+use Rattle.std.specs.Prelude.{Ok, Err}
 use mathlib.Core.Path.{◌≡◌, refl, sym, ap, ◌∙◌, subst}
 use Prim.Native.Nat.{ℕ, ◌+◌, ◌-◌, ◌≤◌, ◌<◌}
 use native.Mathlib.Omega.{arith}
@@ -13,7 +14,7 @@ use borrow.Author.Tests.{eqb-false, eqb-true, leb-true, lt-leb, ne_eqb}
 use Rattle.lent.proofs.Tests.{and_true_l, and_true_r, by-test}
 use Rattle.lent.specs.Answers.{is_done}
 use Rattle.lent.specs.Lists.{every}
-use Rattle.lent.specs.Outcome.{Outcome, refused, done}
+use Rattle.lent.specs.Outcome.{Outcome}
 use Rattle.record_fields.specs.Bam.{word_bytes}
 use Rattle.record_fields.specs.Fields.{Field, joined, name_of}
 use Rattle.record_tags.proofs.PlanLaws.{planned_next, ready_here, ready_next}
@@ -22,13 +23,13 @@ use Rattle.record_tags.specs.Plans.{Means, Ready, growth, is_ready, next_of, pla
 use Rattle.record_tags.specs.Values.{text_of, with_integer, with_text, with_values, is_integer}
 use Rattle.samtags.specs.Writing.{Tag}
 
-pub done_inv : {A : Type 0} (o : Outcome A) → is_done o ≡ true → (a : A) × (o ≡ done a)
-done_inv (refused r) h = let z : ◌≡◌ {A = ℕ} 0 1 = cc in absurd (omega arith)
-done_inv (done a) h = (a, refl)
+pub done_inv : {A : Type 0} (o : Outcome A) → is_done o ≡ true → (a : A) × (o ≡ Ok a)
+done_inv (Err r) h = let z : ◌≡◌ {A = ℕ} 0 1 = cc in absurd (omega arith)
+done_inv (Ok a) h = (a, refl)
 
 -- an edit whose tags are never longer than they were
 abbrev pub Shrinks : TagEdit → Type 0
-Shrinks edit = (ml? : Bool) (text ml : List ℕ) (t : Tag) → edit ml? text ml ≡ done t → (length t.text ≤ length text) × (length t.ml ≤ length (cond ml? ml []))
+Shrinks edit = (ml? : Bool) (text ml : List ℕ) (t : Tag) → edit ml? text ml ≡ Ok t → (length t.text ≤ length text) × (length t.ml ≤ length (cond ml? ml []))
 
 length_one : (f : Field) → length (joined (f ∷ [])) ≡ length f
 length_one f = omega (arith, length-append f [])
@@ -72,23 +73,23 @@ name_small f = go (eqb (get_or f 0 0) 77) (eqb (get_or f 1 0) 77) (eqb (get_or f
 
 module _ (m : Means) (f : Field) (s : Shrinks m.edit) (h : 4 ≤ length f) where
   alone : (o : Outcome Tag) → o ≡ m.edit false (text_of f) [] → length (joined (or_goes (λ (t : Tag). with_text t.text f) o)) ≤ length f
-  alone (refused r) e = omega arith
-  alone (done t) e =
+  alone (Err r) e = omega arith
+  alone (Ok t) e =
       let less = (s false (text_of f) [] t (sym e)).0 in
       let old : length (text_of f) ≤ length f - 4 = omega (arith, length-take (length f - 4) (drop 3 f)) in
       omega (arith, less, old, length_one (with_text t.text f), length_with_text t.text f h)
 
   paired : (o : Outcome Tag) → o ≡ m.edit true m.mm m.ml → length m.mm + 4 ≤ length f
       → length (joined (or_goes (λ (t : Tag). with_text t.text f) o)) ≤ length f
-  paired (refused r) e l = omega arith
-  paired (done t) e l =
+  paired (Err r) e l = omega arith
+  paired (Ok t) e l =
       let less = (s true m.mm m.ml t (sym e)).0 in
       omega (arith, less, length_one (with_text t.text f), length_with_text t.text f h)
 
   values : (o : Outcome Tag) → o ≡ m.edit true m.mm m.ml → length m.ml + 8 ≤ length f
       → length (joined (or_goes (λ (t : Tag). with_values t.ml f) o)) ≤ length f
-  values (refused r) e l = omega arith
-  values (done t) e l =
+  values (Err r) e l = omega arith
+  values (Ok t) e l =
       let less : length t.ml ≤ length m.ml = (s true m.mm m.ml t (sym e)).1 in
       omega (arith, less, length_one (with_values t.ml f), length_with_values t.ml f h)
 

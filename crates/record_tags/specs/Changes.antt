@@ -1,9 +1,8 @@
 -- What becomes of the optional fields when the tags are removed or edited.
 -- Assumes nothing.
-use Rattle.std.specs.Prelude.{ℕ, Bool, true, false, cond, not, ◌&&◌, ◌||◌, List, [], ◌∷◌, ◌++◌, ltb, eqb}
-use Rattle.std.proofs.Math.Option.{Option, none, some}
+use Rattle.std.specs.Prelude.{ℕ, Bool, true, false, cond, not, ◌&&◌, ◌||◌, List, [], ◌∷◌, ◌++◌, ltb, eqb, Ok, Err, Option, None, Some}
 use Rattle.lent.specs.Lists.{is_empty}
-use Rattle.lent.specs.Outcome.{Outcome, refused, done, need}
+use Rattle.lent.specs.Outcome.{Outcome, need}
 use Rattle.record_fields.specs.Fields.{Field, MM, ML, MN, am, bm, any_other, first_named, name_of}
 use Rattle.record_tags.specs.Values.{is_byte_array, is_integer, is_text, text_of, values_of, with_integer, with_text, with_values}
 use Rattle.samtags.specs.Writing.{Tag}
@@ -60,8 +59,8 @@ TagEdit = Bool → List ℕ → List ℕ → Outcome Tag
 
 -- the field with what a tag's edit gives for it, or none if the edit refuses
 abbrev pub or_goes : (Tag → Field) → Outcome Tag → List Field
-or_goes g (refused r) = []
-or_goes g (done t) = g t ∷ []
+or_goes g (Err r) = []
+or_goes g (Ok t) = g t ∷ []
 
 -- a text is edited without ML; a field of another type stays
 abbrev pub alone_edited : TagEdit → Change
@@ -74,8 +73,8 @@ with_ml edit mm ml =
 
 -- the edit refuses
 abbrev pub refuses : Outcome Tag → Bool
-refuses (refused r) = true
-refuses (done t) = false
+refuses (Err r) = true
+refuses (Ok t) = false
 
 -- MN becomes n, if it is an integer
 abbrev pub length_set : ℕ → Change
@@ -83,8 +82,8 @@ length_set n f = cond (is_integer f) (with_integer n f ∷ []) (f ∷ [])
 
 -- and is not looked at if SEQ's length did not change
 abbrev pub length_sets : Option ℕ → List Change
-length_sets none = []
-length_sets (some n) = length_set n ∷ []
+length_sets None = []
+length_sets (Some n) = length_set n ∷ []
 
 -- MM and ML are edited together, or go together, with MN; am and bm are edited alone, and go alone. Afterwards an MN that is still there becomes the new
 -- length of SEQ, if that changed.

@@ -1,9 +1,8 @@
 -- The three calls on a record: which fields it has afterwards, and the refusals: 14, 15, 1, last 12.
 -- Assumes nothing.
-use Rattle.std.specs.Prelude.{ℕ, Bool, cond, not, ◌&&◌, ◌||◌, List, ◌++◌, leb, ltb, eqb, length, take, drop}
-use Rattle.std.proofs.Math.Option.{Option, none, some}
+use Rattle.std.specs.Prelude.{ℕ, Bool, cond, not, ◌&&◌, ◌||◌, List, ◌++◌, leb, ltb, eqb, length, take, drop, Ok, Option, None, Some}
 use Rattle.lent.specs.Lists.{is_empty}
-use Rattle.lent.specs.Outcome.{Outcome, done, need, and_then}
+use Rattle.lent.specs.Outcome.{Outcome, need, and_then}
 use Rattle.packed.specs.Packed.{unpack}
 use Rattle.packed.specs.Stored.{in_read, places_in_read, start_in_read}
 use Rattle.record_fields.specs.Bam.{head_size, is_reverse, is_whole, packed_seq, seq_length}
@@ -27,7 +26,7 @@ mask_fields reverse n packed before fs =
     cond (not (is_tagged fs)) fs
     (cond (disagrees n (first_named MN fs)) (changed removal fs)
     (cond (same_bytes_of before (unpack n packed)) fs
-    (changed (editing (mask_edit (turned_letters reverse before) (in_read reverse n packed)) none fs) fs)))
+    (changed (editing (mask_edit (turned_letters reverse before) (in_read reverse n packed)) None fs) fs)))
 
 -- the calls at places are dropped: the edits of `drop_modifications_at`, the old way
 unfoldable pub drop_edit : List ℕ → List ℕ → TagEdit
@@ -40,7 +39,7 @@ unfolding changed editing drop_edit in_read is_tagged removal
 drop_fields reverse n packed places fs =
     cond (is_empty places || not (is_tagged fs)) fs
     (cond (disagrees n (first_named MN fs)) (changed removal fs)
-    (changed (editing (drop_edit (in_read reverse n packed) (places_in_read reverse n places)) none fs) fs))
+    (changed (editing (drop_edit (in_read reverse n packed) (places_in_read reverse n places)) None fs) fs))
 
 -- SEQ was cut: the edits of `trim_clipped_modifications`
 unfoldable pub cut_edit : ℕ → List ℕ → List ℕ → TagEdit
@@ -49,8 +48,8 @@ cut_edit lo before seq ml? text ml = edited (cut_to lo seq) ml? before text ml
 
 -- SEQ begins at this place of `before`; none if the start is unknown or SEQ is no window of `before` there
 abbrev pub window_in : Option ℕ → List ℕ → List ℕ → Option ℕ
-window_in none before seq = none
-window_in (some lo) before seq = cond (leb lo (length before) && lies_in seq (drop lo before)) (some lo) none
+window_in None before seq = None
+window_in (Some lo) before seq = cond (leb lo (length before) && lies_in seq (drop lo before)) (Some lo) None
 
 -- the read is stored in the same direction as before
 abbrev pub same_direction : Bool → Bool → Bool
@@ -58,12 +57,12 @@ same_direction reverse before-reverse = cond reverse before-reverse (not before-
 
 -- the start in read orientation; it is known only if the read was stored in the same direction before
 abbrev pub start_of : Bool → Bool → ℕ → ℕ → Option ℕ → Option ℕ
-start_of reverse before-reverse n k start = cond (same_direction reverse before-reverse) (start_in_read reverse n k start) none
+start_of reverse before-reverse n k start = cond (same_direction reverse before-reverse) (start_in_read reverse n k start) None
 
 -- all five go if there is no window
 abbrev pub or_removal : Option ℕ → List Field → (ℕ → List Field) → List Field
-or_removal none fs f = changed removal fs
-or_removal (some lo) fs f = f lo
+or_removal None fs f = changed removal fs
+or_removal (Some lo) fs f = f lo
 
 -- without a tag, from no bases to no bases, and if SEQ is the same in read orientation, the fields stay; if MN disagrees with the length before, or SEQ is no
 -- window, all five go
@@ -76,7 +75,7 @@ cut_fields reverse n packed before before-reverse start fs =
     (cond (disagrees (length before) (first_named MN fs)) (changed removal fs)
     (cond (same_bytes_of old new) fs
     (or_removal (window_in (window_start (start_of reverse before-reverse (length before) n start) old new) old new) fs (λ lo.
-    changed (editing (cut_edit lo old new) (cond (eqb (length before) n) none (some n)) fs) fs))))
+    changed (editing (cut_edit lo old new) (cond (eqb (length before) n) None (Some n)) fs) fs))))
 
 -- ---- the calls
 
@@ -107,7 +106,7 @@ finished bam fs new = finished_with (ltb (length new) (length fs)) (take (head_s
 
 -- 12 if the record is longer than its room
 abbrev pub in_room : ℕ → Finished → Outcome Finished
-in_room room r = need (leb (length r.bytes) room) 12 (done r)
+in_room room r = need (leb (length r.bytes) room) 12 (Ok r)
 
 -- the record with new fields: 14, 15, 1, last 12; k is the number of letters of SEQ before
 unfoldable pub remade : List ℕ → ℕ → ℕ → (List Field → List Field) → Outcome Finished

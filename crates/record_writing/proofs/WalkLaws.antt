@@ -1,5 +1,6 @@
 -- The walk over the fields, one turn at a time: from the start ≡ from here. And the whole record: it fits, and its two parts are written as one.
 -- Assumes nothing.
+use Rattle.std.specs.Prelude.{Ok}
 use mathlib.Core.Path.{◌≡◌, refl, sym, ap, ◌∙◌, subst}
 use Prim.Native.Nat.{ℕ, ◌+◌, ◌*◌, ◌≤◌, ◌<◌}
 use native.Mathlib.Omega.{arith}
@@ -17,7 +18,7 @@ use Rattle.lent.proofs.Tests.{cond_at_most}
 use Rattle.lent.specs.Answers.{is_done}
 use Rattle.lent.specs.Filled.{over}
 use Rattle.lent.specs.Lists.{every}
-use Rattle.lent.specs.Outcome.{done, refuse}
+use Rattle.lent.specs.Outcome.{refuse}
 use Rattle.record_fields.proofs.FieldsLaws.{done_some, done_step, fields_done, fields_of_end, fields_of_step, size_fits, step_fits}
 use Rattle.record_fields.proofs.Inverse.{fields_each, joined_fields}
 use Rattle.record_fields.proofs.LocalLaws.{is_field_size}
@@ -196,6 +197,6 @@ unfolding leaves_record
 no_room f out h = rw (lt-leb (length f.bytes) (length out) h)
 
 pub in_room_lem : (f : Finished) (out out' : List ℕ) (n : ℕ) → length f.bytes ≤ length out → n ≡ length f.bytes → out' ≡ over f.bytes out
-    → left (done (n, f.went)) out' ≡ leaves_record (in_room (length out) f) out
+    → left (Ok (n, f.went)) out' ≡ leaves_record (in_room (length out) f) out
 unfolding leaves_record
 in_room_lem f out out' n h e q = rw (le-leb (length f.bytes) (length out) h, e, q)

@@ -2,15 +2,8 @@
 -- Assumes nothing.
 use Rattle.std.specs.Prelude.{ℕ, Bool, List, length}
 use Rattle.lent.specs.Filled.{leaves}
-use Rattle.lent.specs.Outcome.{Outcome, refused, done, on_done}
+use Rattle.lent.specs.Outcome.{Outcome, on_done}
 use Rattle.record_tags.specs.Records.{Finished}
-use Rattle.record_writing.specs.declared.whole.Recorded.{Recorded}
-use Rattle.record_writing.specs.declared.whole.Recorded.TheVariants.{Done, Refused}
-
--- `Recorded` as an outcome: done with the new length and whether a field went, or the refusal
-abbrev pub record_says : Recorded → Outcome (ℕ × Bool)
-record_says (Done n went) = done (n, went)
-record_says (Refused r) = refused r
 
 -- the answer of a call, and the row after it
 pub record Left : Type 0 where

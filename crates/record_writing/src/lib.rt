@@ -55,6 +55,7 @@ pub fn put_fields(
         values: false,
         text: false,
     };
+    // A cursor, not a count: a field takes as many bytes as it says.
     while at < bam.len() {
         let size = record_fields::sizes::field_size(bam, at);
         let name = record_fields::name_by(bam[at], bam[at + 1]);

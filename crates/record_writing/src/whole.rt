@@ -1,11 +1,11 @@
-// Writes the new record, or refuses with 12: with any refusal the row is unchanged.
+// Writes the new record. Err with 12 if it has no room: the row is unchanged then.
 ghost use Rattle.std.specs.Prelude.{◌≡◌, false, true, ◌++◌, ◌≤◌, leb, length, drop, take};
 ghost use Rattle.lent.specs.Answers.{is_done};
 ghost use Rattle.record_fields.specs.Fields.{fields, fields_of, joined};
 ghost use Rattle.record_tags.specs.Changes.{changed};
 ghost use Rattle.record_tags.specs.Plans.{Ready, by_window, growth, means, planned};
 ghost use Rattle.record_tags.specs.Records.{finished_with, in_room};
-ghost use Rattle.record_writing.specs.Answers.{leaves_record, left, record_says};
+ghost use Rattle.record_writing.specs.Answers.{leaves_record, left};
 
 use crate::put_fields;
 use lent::Refusal;
@@ -13,22 +13,15 @@ use record_fields::MN;
 use record_rows::put_bytes;
 use record_tags::LENGTH;
 
-// The answer of a call on a record: how long the new record is and whether a field went, or why nothing was written.
-#[derive(Clone, Copy)]
-pub enum Recorded {
-    Done(usize, bool),
-    Refused(Refusal),
-}
-
-// The record as it came.
-pub fn keep_record(bam: &[u8], out: &mut [u8]) -> Recorded
-    ensures { left (record_says result) out.new ≡ leaves_record (in_room (length out.old) (finished_with false bam.now)) out.old }
+// The record as it came: Ok with its length, and that no field went.
+pub fn keep_record(bam: &[u8], out: &mut [u8]) -> Result<(usize, bool), Refusal>
+    ensures { left result out.new ≡ leaves_record (in_room (length out.old) (finished_with false bam.now)) out.old }
 {
     if out.len() < bam.len() {
-        return Recorded::Refused(Refusal(12));
+        return Err(Refusal::NoRoom);
     }
     let n = put_bytes(out, 0, bam);
-    Recorded::Done(n, false)
+    Ok((n, false))
 }
 
 // How many bytes the record may grow by.
@@ -74,7 +67,7 @@ fn has_room(
     n <= room
 }
 
-// The record with its fields by a plan.
+// The record with its fields by a plan: Ok with its length, and whether a field went.
 pub fn write_record(
     bam: &[u8],
     from: usize,
@@ -89,11 +82,11 @@ pub fn write_record(
     went: bool,
     out: &mut [u8],
     work: &mut [u8],
-) -> Recorded
+) -> Result<(usize, bool), Refusal>
     requires from_in_bounds { (from ≤ length bam.now) × (length seq.now ≤ 16000) × (length mm.now ≤ 65536) × (length ml.now ≤ 65536) × (bases ≤ 16000) }
     requires bam_value { is_done (fields (drop from bam.now)) ≡ true }
     requires ready { Ready (means (by_window lo after.now marks.now seq.now) mm.now ml.now bases) plan (fields_of (drop from bam.now)) }
-    ensures { left (record_says result) out.new
+    ensures { left result out.new
         ≡ leaves_record (in_room (length out.old) (finished_with went (take from bam.now ++ joined
         (changed (planned (means (by_window lo after.now marks.now seq.now)
         mm.now ml.now bases) plan) (fields_of (drop from bam.now)))))) out.old }
@@ -113,11 +106,11 @@ pub fn write_record(
         work,
     );
     if !fits {
-        return Recorded::Refused(Refusal(12));
+        return Err(Refusal::NoRoom);
     }
     put_bytes(out, 0, &bam[0..from]);
     let n = put_fields(
         bam, from, plan, mm, ml, bases, seq, after, marks, lo, out, work,
     );
-    Recorded::Done(n, went)
+    Ok((n, went))
 }

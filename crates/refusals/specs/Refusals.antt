@@ -1,24 +1,24 @@
 -- Which calls over columns and over reads are refused, and with which number: 1 above the limits of the domain, 2 if lengths disagree, last 12 if a
 -- lent row is too short. All other calls are done with the number of entries that each row takes.
 -- Assumes nothing.
-use Rattle.std.specs.Prelude.{ℕ, min, ◌&&◌, List, length, leb, eqb}
+use Rattle.std.specs.Prelude.{ℕ, min, ◌&&◌, List, length, leb, eqb, Ok}
 use Rattle.lent.specs.Lists.{sum}
-use Rattle.lent.specs.Outcome.{Outcome, done, need, and_then}
+use Rattle.lent.specs.Outcome.{Outcome, need, and_then}
 
 -- ---- columns
 
--- three columns; done with the number of positions
+-- three columns; Ok with the number of positions
 unfoldable pub columns_of : ℕ → ℕ → ℕ → Outcome ℕ
 columns_of inf unc con =
-    need (leb inf 16000 && leb unc 16000 && leb con 16000) 1 (need (eqb unc inf && eqb con inf) 2 (done inf))
+    need (leb inf 16000 && leb unc 16000 && leb con 16000) 1 (need (eqb unc inf && eqb con inf) 2 (Ok inf))
 
 -- room for n entries in each of three rows
 unfoldable pub in_room : ℕ → ℕ → ℕ → ℕ → Outcome ℕ
-in_room n inf unc con = need (leb n inf && leb n unc && leb n con) 12 (done n)
+in_room n inf unc con = need (leb n inf && leb n unc && leb n con) 12 (Ok n)
 
 -- SEQ and the informative column
 unfoldable pub restorable : ℕ → ℕ → Outcome ℕ
-restorable seq inf = need (leb seq 16000 && leb inf 16000) 1 (need (eqb inf seq) 2 (done seq))
+restorable seq inf = need (leb seq 16000 && leb inf 16000) 1 (need (eqb inf seq) 2 (Ok seq))
 
 -- the first `len` positions of three columns, or all if there are fewer, into three rows
 unfoldable pub truncated : ℕ → ℕ → ℕ → ℕ → ℕ → ℕ → ℕ → Outcome ℕ
@@ -27,7 +27,7 @@ truncated len inf unc con keptInf keptUnc keptCon =
 
 -- one column's counts into a row of `room` entries
 unfoldable pub counts_in_room : ℕ → ℕ → ℕ → ℕ → Outcome ℕ
-counts_in_room inf unc con room = and_then (columns_of inf unc con) (λ n. need (leb n room) 12 (done n))
+counts_in_room inf unc con room = and_then (columns_of inf unc con) (λ n. need (leb n room) 12 (Ok n))
 
 -- ---- reads
 

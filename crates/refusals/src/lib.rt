@@ -3,11 +3,10 @@
 #![tactic(auto)]
 
 ghost use Rattle.std.specs.Prelude.{◌≡◌, min, ◌≤◌, length};
-ghost use Rattle.lent.specs.Outcome.{says};
 ghost use Rattle.refusals.specs.Refusals.{columns_of, in_room, restorable, truncated, counts_in_room, annotated};
 ghost use Rattle.lent.specs.Lists.{sum};
 
-use lent::{Refusal, Written};
+use lent::Refusal;
 
 // The most positions of a consensus, and the most bases of SEQ.
 const POSITIONS: usize = 16000;
@@ -16,58 +15,67 @@ const READS: usize = 4096;
 
 const BASES: usize = 1048576;
 
-// Three columns within the domain and of one length; done with the number of positions.
-pub fn columns_of(informative: usize, unconverted: usize, converted: usize) -> Written
-    ensures { says result ≡ columns_of informative unconverted converted }
+// Three columns within the domain and of one length; Ok with the number of positions.
+pub fn columns_of(
+    informative: usize,
+    unconverted: usize,
+    converted: usize,
+) -> Result<usize, Refusal>
+    ensures { result ≡ columns_of informative unconverted converted }
 {
     if POSITIONS < informative {
-        return Written::Refused(Refusal(1));
+        return Err(Refusal::TooLong);
     }
     if POSITIONS < unconverted {
-        return Written::Refused(Refusal(1));
+        return Err(Refusal::TooLong);
     }
     if POSITIONS < converted {
-        return Written::Refused(Refusal(1));
+        return Err(Refusal::TooLong);
     }
     if unconverted != informative {
-        return Written::Refused(Refusal(2));
+        return Err(Refusal::LengthsDisagree);
     }
     if converted != informative {
-        return Written::Refused(Refusal(2));
+        return Err(Refusal::LengthsDisagree);
     }
-    Written::Done(informative)
+    Ok(informative)
 }
 
 // Room for n entries in each of three rows.
-fn in_room(n: usize, informative: usize, unconverted: usize, converted: usize) -> Written
-    ensures { says result ≡ in_room n informative unconverted converted }
+fn in_room(
+    n: usize,
+    informative: usize,
+    unconverted: usize,
+    converted: usize,
+) -> Result<usize, Refusal>
+    ensures { result ≡ in_room n informative unconverted converted }
 {
     if informative < n {
-        return Written::Refused(Refusal(12));
+        return Err(Refusal::NoRoom);
     }
     if unconverted < n {
-        return Written::Refused(Refusal(12));
+        return Err(Refusal::NoRoom);
     }
     if converted < n {
-        return Written::Refused(Refusal(12));
+        return Err(Refusal::NoRoom);
     }
-    Written::Done(n)
+    Ok(n)
 }
 
 // SEQ and the informative column.
-pub fn restorable(bases: usize, informative: usize) -> Written
-    ensures { says result ≡ restorable bases informative }
+pub fn restorable(bases: usize, informative: usize) -> Result<usize, Refusal>
+    ensures { result ≡ restorable bases informative }
 {
     if POSITIONS < bases {
-        return Written::Refused(Refusal(1));
+        return Err(Refusal::TooLong);
     }
     if POSITIONS < informative {
-        return Written::Refused(Refusal(1));
+        return Err(Refusal::TooLong);
     }
     if informative != bases {
-        return Written::Refused(Refusal(2));
+        return Err(Refusal::LengthsDisagree);
     }
-    Written::Done(bases)
+    Ok(bases)
 }
 
 // One column's counts into a row of `room` entries.
@@ -76,20 +84,17 @@ pub fn counts_in_room(
     unconverted: usize,
     converted: usize,
     room: usize,
-) -> Written
-    ensures { says result ≡ counts_in_room informative unconverted converted room }
+) -> Result<usize, Refusal>
+    ensures { result ≡ counts_in_room informative unconverted converted room }
 {
-    let asked = columns_of(informative, unconverted, converted);
-    let Written::Done(n) = asked else {
-        return asked;
-    };
+    let n = columns_of(informative, unconverted, converted)?;
     if room < n {
-        return Written::Refused(Refusal(12));
+        return Err(Refusal::NoRoom);
     }
-    asked
+    Ok(n)
 }
 
-// The first `len` positions, or all if there are fewer, into three rows; done with their number.
+// The first `len` positions, or all if there are fewer, into three rows; Ok with their number.
 pub fn truncated(
     len: usize,
     informative: usize,
@@ -98,14 +103,11 @@ pub fn truncated(
     kept_informative: usize,
     kept_unconverted: usize,
     kept_converted: usize,
-) -> Written
-    ensures { says result ≡ truncated len informative unconverted converted kept_informative kept_unconverted kept_converted }
+) -> Result<usize, Refusal>
+    ensures { result ≡ truncated len informative unconverted converted kept_informative kept_unconverted kept_converted }
 {
-    let asked = columns_of(informative, unconverted, converted);
-    let Written::Done(n) = asked else {
-        return asked;
-    };
-    let kept = smaller(len, n);
+    let n = columns_of(informative, unconverted, converted)?;
+    let kept = len.min(n);
     in_room(kept, kept_informative, kept_unconverted, kept_converted)
 }
 
@@ -114,16 +116,10 @@ fn total(lengths: &[u32]) -> u64
     requires { length lengths.now ≤ 4096 }
     ensures { result ≡ sum lengths.now }
 {
-    let mut passed: u64 = 0;
-    let mut i = 0;
-    while i < lengths.len() {
-        passed += lengths[i] as u64;
-        i += 1;
-    }
-    passed
+    lengths.iter().map(|n| *n as u64).sum()
 }
 
-// Reads whose lengths, bases and aligned bytes agree, and a consensus that has room in three columns; done with the consensus' length.
+// Reads whose lengths, bases and aligned bytes agree, and a consensus that has room in three columns; Ok with the consensus' length.
 pub fn annotated(
     consensus_len: usize,
     read_lengths: &[u32],
@@ -132,36 +128,27 @@ pub fn annotated(
     informative: usize,
     unconverted: usize,
     converted: usize,
-) -> Written
-    ensures { says result ≡ annotated consensus_len read_lengths.now read_bases.now read_aligned.now
+) -> Result<usize, Refusal>
+    ensures { result ≡ annotated consensus_len read_lengths.now read_bases.now read_aligned.now
         informative unconverted converted }
 {
     if POSITIONS < consensus_len {
-        return Written::Refused(Refusal(1));
+        return Err(Refusal::TooLong);
     }
     if READS < read_lengths.len() {
-        return Written::Refused(Refusal(1));
+        return Err(Refusal::TooLong);
     }
     if BASES < read_bases.len() {
-        return Written::Refused(Refusal(1));
+        return Err(Refusal::TooLong);
     }
     if BASES < read_aligned.len() {
-        return Written::Refused(Refusal(1));
+        return Err(Refusal::TooLong);
     }
     if total(read_lengths) != read_bases.len() as u64 {
-        return Written::Refused(Refusal(2));
+        return Err(Refusal::LengthsDisagree);
     }
     if read_aligned.len() != read_bases.len() {
-        return Written::Refused(Refusal(2));
+        return Err(Refusal::LengthsDisagree);
     }
     in_room(consensus_len, informative, unconverted, converted)
-}
-
-pub fn smaller(a: usize, b: usize) -> usize
-    ensures { result ≡ min a b }
-{
-    if a < b {
-        return a;
-    }
-    b
 }

@@ -1,15 +1,15 @@
 -- The tests of each public call, in the scope's order of refusals; and last the one edit that serves all three calls.
 -- Assumes nothing.
+use Rattle.std.specs.Prelude.{Err, Option, None, Some}
 use mathlib.Core.Path.{◌≡◌}
 use Prim.Native.Nat.{ℕ, ◌<◌, ◌≤◌}
 use mathlib.Core.Bool.{Bool, true, false, ◌&&◌}
 use mathlib.Core.List.{List, []}
-use mathlib.Core.Option.{Option, none, some}
 use lib.Dec.{leb}
 use lib.ListN.{length, drop}
 use borrow.Author.Tests.{eq-eqb, le-leb, lt-leb, ne_eqb}
 use Rattle.lent.specs.Filled.{leaves}
-use Rattle.lent.specs.Outcome.{Outcome, refuse, refused}
+use Rattle.lent.specs.Outcome.{Outcome, refuse}
 use Rattle.lent.specs.declared.Refusal.{Refusal}
 use Rattle.samtags.specs.Edits.{cut_tag, drop_from_tag, in_room, lies_in, mask_tag, same_bytes_of, window_start, edited}
 use Rattle.samtags.specs.Reading.{in_domain}
@@ -19,7 +19,7 @@ use Rattle.editing.specs.Rewrote.{leaves_tag, rewrote}
 use Rattle.changing.specs.Windows.{is_marked, marked_at, window_edit}
 
 -- a refusal leaves the rows as they were
-pub left_alone : (ml? : Bool) (t v : List ℕ) (o : Outcome Tag) (r : Refusal) → o ≡ refused r → rewrote (refused r) t v ≡ leaves_tag ml? o t v
+pub left_alone : (ml? : Bool) (t v : List ℕ) (o : Outcome Tag) (r : Refusal) → o ≡ Err r → rewrote (Err r) t v ≡ leaves_tag ml? o t v
 unfolding leaves_tag leaves
 left_alone ml? t v o r e = rw e
 
@@ -56,11 +56,11 @@ module _ (ml? : Bool) (before after text ml : List ℕ) (n m : ℕ) where
       cut_unchanged start h = rw (d, le-leb (length after) 16000 l, h)
 
       module _ (start : Option ℕ) (s : same_bytes_of before after ≡ false) where
-        pub cut_unknown : none ≡ window_start start before after → cut_tag ml? start before after text ml n m ≡ refuse 11
+        pub cut_unknown : None ≡ window_start start before after → cut_tag ml? start before after text ml n m ≡ refuse 11
         unfolding cut_tag
         cut_unknown h = rw (d, le-leb (length after) 16000 l, s, ← h)
 
-        module _ (lo : ℕ) (k : some lo ≡ window_start start before after) where
+        module _ (lo : ℕ) (k : Some lo ≡ window_start start before after) where
           pub cut_no_window : leb lo (length before) && lies_in after (drop lo before) ≡ false → cut_tag ml? start before after text ml n m ≡ refuse 11
           unfolding cut_tag
           cut_no_window h = rw (d, le-leb (length after) 16000 l, s, ← k, h)

@@ -1,13 +1,13 @@
 -- Over upper-case bases, reading a built tag gives back exactly the calls that it was built from, for one strand and for two. A tag that is built for two
 -- strands takes at most 64,010 bytes.
 -- Assumes nothing.
+use Rattle.std.specs.Prelude.{Ok, Option, None, Some}
 use mathlib.Core.Path.{◌≡◌, refl, ap, ◌∙◌, subst}
 use Prim.Native.Nat.{ℕ, suc, ◌+◌, ◌*◌, ◌≤◌}
 use native.Mathlib.Omega.{arith}
 use native.Mathlib.Nat.{mul-le-mul_right, suc-mul}
 use mathlib.Core.Bool.{Bool, true, false, cond, not, ◌&&◌}
 use mathlib.Core.List.{List, [], ◌∷◌, ◌++◌, map}
-use mathlib.Core.Option.{Option, none, some}
 use lib.ListN.{length, length-append, length-map}
 use lib.Dec.{leb, eqb}
 use borrow.Author.Tests.{eqb-true, le-leb, leb-true}
@@ -21,7 +21,7 @@ use Rattle.pattern.specs.declared.ConversionPattern.TheVariants.{CToT, GToA}
 use Rattle.pattern.specs.declared.MethylationMode.{MethylationMode}
 use Rattle.samtags.specs.Bytes.{comma, semicolon}
 use Rattle.samtags.specs.Text.{base_of}
-use Rattle.lent.specs.Outcome.{done, need}
+use Rattle.lent.specs.Outcome.{need}
 use Rattle.samtags.specs.Spots.{Spot, bare, call, place_of, values_of, Group, Call, Listing, calls_in, listing, holds, places_from, tracked}
 use Rattle.samtags.specs.Reading.{values_if, lists, in_domain, read_tag}
 use Rattle.samtags.specs.Writing.{Tag, skips_from, entries_text, group_text, text_of, ml_of, written}
@@ -107,17 +107,17 @@ spots_places ml? f [] = refl
 spots_places ml? f (p ∷ ps) = rw (one (f p), spots_places ml? f ps)
   where
     one : (v : Option ℕ) → place_of (valued ml? (spot_at v p)) ≡ p
-    one none = refl
-    one (some v) = refl
+    one None = refl
+    one (Some v) = refl
 
 spots_sized : (ml? : Bool) (f : ℕ → Option ℕ) (ps : List ℕ) → every (sized (cond ml? 1 0)) (map (valued ml?) (map (λ q. spot_at (f q) q) ps)) ≡ true
 spots_sized ml? f [] = refl
 spots_sized ml? f (p ∷ ps) = and_true _ _ (one ml? (f p)) (spots_sized ml? f ps)
   where
     one : (ml? : Bool) (v : Option ℕ) → sized (cond ml? 1 0) (valued ml? (spot_at v p)) ≡ true
-    one ml? none = refl
-    one true (some v) = refl
-    one false (some v) = refl
+    one ml? None = refl
+    one true (Some v) = refl
+    one false (Some v) = refl
 
 one_value : (ml? : Bool) (p : ConversionPattern) → values_if ml? (header_of p) ≡ cond ml? 1 0
 unfolding values_if
@@ -156,8 +156,8 @@ strand_fits ml? mode p ev seq u = record {
 -- ---- its calls are those that the evidence gives
 
 one_call : (v : Option ℕ) (i : ℕ) (ss : List Spot) → calls_in (spot_at v i ∷ ss) ≡ call_at true v i (calls_in ss)
-one_call none i ss = refl
-one_call (some v) i ss = refl
+one_call None i ss = refl
+one_call (Some v) i ss = refl
 
 calls_from_lem : (mode : MethylationMode) (p : ConversionPattern) (ev : Evidence) (i : ℕ) (xs : List ℕ) → upper_case xs ≡ true
     → calls_in (map (λ q. spot_at (called_at mode ev q) q) (places_from (same_in_any_case (letter_of p)) i xs)) ≡ calls_from i mode p ev xs
@@ -191,7 +191,7 @@ strand_lists ml? mode p ev seq u =
 
 -- groups of strands, of which there is one, are read back with their calls
 groups_read_back : (ml? : Bool) (seq : List ℕ) (gs : List Group) (lent : List ℕ) → AllFit ml? seq (map (valued_group ml?) gs) → is_empty gs ≡ false
-    → lists ml? seq (written gs).text (cond ml? (written gs).ml lent) ≡ done (map listing (map (valued_group ml?) gs))
+    → lists ml? seq (written gs).text (cond ml? (written gs).ml lent) ≡ Ok (map listing (map (valued_group ml?) gs))
 unfolding lists written
 groups_read_back ml? seq gs lent f e =
     rw (← text_valued ml? gs, ← ml_lent ml? gs lent, read_back ml? seq (map (valued_group ml?) gs) lent f (map_some (valued_group ml?) gs e))
@@ -208,30 +208,30 @@ no_u_lem ml? mode p ev seq = rw (letter_base p) (letter p)
 
 -- a build that is done is what is built whatever the room
 pub built_in_room : (ml? : Bool) (mode : MethylationMode) (p : ConversionPattern) (ev : Evidence) (seq : List ℕ) (t m : ℕ) (r : Tag)
-    → build_tag ml? mode p ev seq t m ≡ done r → built_tag mode p ev seq ≡ done r
+    → build_tag ml? mode p ev seq t m ≡ Ok r → built_tag mode p ev seq ≡ Ok r
 unfolding build_tag
 built_in_room ml? mode p ev seq t m r e =
-    let (w, built, fits) = and_then_inv (built_tag mode p ev seq) (λ (r : Tag). need (leb (length r.text) t && cond ml? (leb (length r.ml) m) true) 12 (done r)) r e in
-    rw (done_inj (need_rest (leb (length w.text) t && cond ml? (leb (length w.ml) m) true) 12 (done w) r fits)) at built
+    let (w, built, fits) = and_then_inv (built_tag mode p ev seq) (λ (r : Tag). need (leb (length r.text) t && cond ml? (leb (length r.ml) m) true) 12 (Ok r)) r e in
+    rw (done_inj (need_rest (leb (length w.text) t && cond ml? (leb (length w.ml) m) true) 12 (Ok w) r fits)) at built
 
 -- and that is its strand's tag
 pub built_tag_lem : (ml? : Bool) (mode : MethylationMode) (p : ConversionPattern) (ev : Evidence) (seq : List ℕ) (t m : ℕ) (r : Tag)
-    → build_tag ml? mode p ev seq t m ≡ done r → written (strand_group mode p ev seq ∷ []) ≡ r
+    → build_tag ml? mode p ev seq t m ≡ Ok r → written (strand_group mode p ev seq ∷ []) ≡ r
 unfolding built_tag
 built_tag_lem ml? mode p ev seq t m r e =
     let g = strand_group mode p ev seq in
     let e₂ = need_rest (evidence_in_domain ev seq) 1 _ r (built_in_room ml? mode p ev seq t m r e) in
     let e₃ = need_rest (evidence_agrees ev seq) 2 _ r e₂ in
-    done_inj (need_rest (is_enabled mode && has_calls g) 20 (done (written (g ∷ []))) r e₃)
+    done_inj (need_rest (is_enabled mode && has_calls g) 20 (Ok (written (g ∷ []))) r e₃)
 
 -- What is built, with and without ML, is read, and lists exactly the calls of the evidence.
 pub built_is_read : (ml? : Bool) (mode : MethylationMode) (p : ConversionPattern) (ev : Evidence) (seq : List ℕ) (t m : ℕ) (r : Tag) (lent : List ℕ)
-    → upper_case seq ≡ true → build_tag ml? mode p ev seq t m ≡ done r
-    → lists ml? seq r.text (cond ml? r.ml lent) ≡ done (evidence_listing ml? mode p ev seq ∷ [])
+    → upper_case seq ≡ true → build_tag ml? mode p ev seq t m ≡ Ok r
+    → lists ml? seq r.text (cond ml? r.ml lent) ≡ Ok (evidence_listing ml? mode p ev seq ∷ [])
 built_is_read ml? mode p ev seq t m r lent u e =
-    subst (λ (q : Tag). lists ml? seq q.text (cond ml? q.ml lent) ≡ done (evidence_listing ml? mode p ev seq ∷ [])) (built_tag_lem ml? mode p ev seq t m r e)
+    subst (λ (q : Tag). lists ml? seq q.text (cond ml? q.ml lent) ≡ Ok (evidence_listing ml? mode p ev seq ∷ [])) (built_tag_lem ml? mode p ev seq t m r e)
     (groups_read_back ml? seq (strand_group mode p ev seq ∷ []) lent (strand_fits ml? mode p ev seq u, tt) refl
-    ∙ ap (λ (l : Listing). done (l ∷ [])) (strand_lists ml? mode p ev seq u))
+    ∙ ap (λ (l : Listing). Ok (l ∷ [])) (strand_lists ml? mode p ev seq u))
 
 -- ---- strands joined
 
@@ -288,9 +288,9 @@ module _ (ml? : Bool) (mode : MethylationMode) (seq : List ℕ) (u : upper_case 
 
   -- What is built for strands, where it has a call, is accepted by the reader and lists exactly the calls of all, C to T first.
   pub joined_is_read : (strands : List Strand) (lent : List ℕ) → is_empty (joined_groups mode strands seq) ≡ false
-      → lists ml? seq (joined_tag mode strands seq).text (cond ml? (joined_tag mode strands seq).ml lent) ≡ done (joined_listings ml? mode strands seq)
+      → lists ml? seq (joined_tag mode strands seq).text (cond ml? (joined_tag mode strands seq).ml lent) ≡ Ok (joined_listings ml? mode strands seq)
   unfolding joined_tag
-  joined_is_read strands lent e = groups_read_back ml? seq (joined_groups mode strands seq) lent (joined_fit strands) e ∙ ap done (joined_list strands)
+  joined_is_read strands lent e = groups_read_back ml? seq (joined_groups mode strands seq) lent (joined_fit strands) e ∙ ap Ok (joined_list strands)
 
 strands_no_u : (ml? : Bool) (mode : MethylationMode) (seq : List ℕ) (strands : List Strand) → no_u (map (listing_of ml? mode seq) strands) ≡ true
 strands_no_u ml? mode seq [] = refl
@@ -314,8 +314,8 @@ values_short f [] = omega arith
 values_short f (p ∷ ps) = one (f p) (concat_map values_of (map (λ q. spot_at (f q) q) ps)) (values_short f ps)
   where
     one : (v : Option ℕ) (vs : List ℕ) → length vs ≤ length ps → length (values_of (spot_at v p) ++ vs) ≤ suc (length ps)
-    one none vs h = omega arith
-    one (some v) vs h = omega arith
+    one None vs h = omega arith
+    one (Some v) vs h = omega arith
 
 strand_short : (mode : MethylationMode) (p : ConversionPattern) (ev : Evidence) (seq : List ℕ) → Short (length seq) (strand_group mode p ev seq)
 unfolding strand_group group_text
@@ -385,7 +385,7 @@ in_domain_lem false seq r lent a b c = rw (le-leb (length seq) 16000 a, le-leb (
 
 -- what is built for one strand is no longer than the domain allows
 built_short : (ml? : Bool) (mode : MethylationMode) (p : ConversionPattern) (ev : Evidence) (seq : List ℕ) (t m : ℕ) (r : Tag)
-    → build_tag ml? mode p ev seq t m ≡ done r → (length seq ≤ 16000) × (length r.text ≤ 32005) × (length r.ml ≤ 16000)
+    → build_tag ml? mode p ev seq t m ≡ Ok r → (length seq ≤ 16000) × (length r.text ≤ 32005) × (length r.ml ≤ 16000)
 unfolding built_tag written text_of ml_of
 built_short ml? mode p ev seq t m r e =
     let g = strand_group mode p ev seq in
@@ -401,8 +401,8 @@ built_short ml? mode p ev seq t m r e =
 
 -- A built tag, with or without ML, is accepted by the public reader and lists exactly the calls of the evidence.
 pub built_is_accepted : (ml? : Bool) (mode : MethylationMode) (p : ConversionPattern) (ev : Evidence) (seq : List ℕ) (t m : ℕ) (r : Tag) (lent : List ℕ)
-    → upper_case seq ≡ true → build_tag ml? mode p ev seq t m ≡ done r
-    → read_tag ml? seq r.text (cond ml? r.ml lent) ≡ done (evidence_listing ml? mode p ev seq ∷ [])
+    → upper_case seq ≡ true → build_tag ml? mode p ev seq t m ≡ Ok r
+    → read_tag ml? seq r.text (cond ml? r.ml lent) ≡ Ok (evidence_listing ml? mode p ev seq ∷ [])
 unfolding read_tag
 built_is_accepted ml? mode p ev seq t m r lent u e =
     let s = built_short ml? mode p ev seq t m r e in
@@ -410,7 +410,7 @@ built_is_accepted ml? mode p ev seq t m r lent u e =
 
 pub joined_is_accepted : (ml? : Bool) (mode : MethylationMode) (strands : List Strand) (seq lent : List ℕ) → upper_case seq ≡ true → length strands ≤ 2
     → length seq ≤ 16000 → is_empty (joined_groups mode strands seq) ≡ false
-    → read_tag ml? seq (joined_tag mode strands seq).text (cond ml? (joined_tag mode strands seq).ml lent) ≡ done (joined_listings ml? mode strands seq)
+    → read_tag ml? seq (joined_tag mode strands seq).text (cond ml? (joined_tag mode strands seq).ml lent) ≡ Ok (joined_listings ml? mode strands seq)
 unfolding read_tag
 joined_is_accepted ml? mode strands seq lent u few h e =
     let s = joined_fits_the_domain mode strands seq few h in

@@ -1,5 +1,6 @@
 -- A built tag, in SAMtags' words alone: its text is spelled as SAMtags says, and its groups mean exactly the calls of the evidence.
 -- Assumes nothing.
+use Rattle.std.specs.Prelude.{Ok}
 use mathlib.Core.Path.{◌≡◌, refl, ap, subst}
 use Prim.Native.Nat.{ℕ}
 use mathlib.Core.Bool.{Bool, true, false, cond}
@@ -13,7 +14,6 @@ use Rattle.pattern.specs.declared.ConversionPattern.TheVariants.{CToT, GToA}
 use Rattle.pattern.specs.declared.MethylationMode.{MethylationMode}
 use Rattle.samtags.specs.Bytes.{ascii, semicolon}
 use Rattle.samtags.specs.Decimal.{digits}
-use Rattle.lent.specs.Outcome.{done}
 use Rattle.samtags.specs.Spots.{Group, Listing, listing}
 use Rattle.samtags.specs.Reading.{lists}
 use Rattle.samtags.specs.Writing.{Tag, skips_from, text_of, written}
@@ -78,7 +78,7 @@ headers_spelled ml? (g ∷ gs) a = rw (headers_spelled ml? gs a.1) (ap (λ (h : 
 
 -- strands' groups that are read say what they list
 groups_say : (ml? : Bool) (seq : List ℕ) (gs : List Group) (ml : List ℕ) (ls : List Listing) → AllStrandlike gs
-    → map listing (map (valued_group ml?) gs) ≡ ls → upper_case seq ≡ true → no_u ls ≡ true → lists ml? seq (written gs).text ml ≡ done ls
+    → map listing (map (valued_group ml?) gs) ≡ ls → upper_case seq ≡ true → no_u ls ≡ true → lists ml? seq (written gs).text ml ≡ Ok ls
     → Says ml? seq (written gs).text ml ls
 unfolding written
 groups_say ml? seq gs ml ls a same u n e = record {
@@ -93,7 +93,7 @@ groups_say ml? seq gs ml ls a same u n e = record {
 
 -- A tag built for one strand, with or without ML, says exactly the calls of the evidence.
 pub built_says : (ml? : Bool) (mode : MethylationMode) (p : ConversionPattern) (ev : Evidence) (seq : List ℕ) (t m : ℕ) (r : Tag) (lent : List ℕ)
-    → upper_case seq ≡ true → build_tag ml? mode p ev seq t m ≡ done r
+    → upper_case seq ≡ true → build_tag ml? mode p ev seq t m ≡ Ok r
     → Says ml? seq r.text (cond ml? r.ml lent) (evidence_listing ml? mode p ev seq ∷ [])
 built_says ml? mode p ev seq t m r lent u e =
     let g = strand_group mode p ev seq in

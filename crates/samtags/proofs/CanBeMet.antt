@@ -1,5 +1,6 @@
 -- The hypotheses of the promises can be met: each promise is applied to a worked tag, for which all its hypotheses hold together.
 -- Assumes nothing.
+use Rattle.std.specs.Prelude.{Ok}
 use mathlib.Core.Path.{◌≡◌, refl}
 use Prim.Native.Nat.{ℕ, zero, suc, ◌*◌, ◌<◌}
 use native.Mathlib.Omega.{arith}
@@ -8,7 +9,6 @@ use mathlib.Core.List.{List, [], ◌∷◌, map}
 use lib.ListN.{get_or, take, drop}
 use lib.Dec.{lit<}
 use Rattle.lent.specs.Lists.{every}
-use Rattle.lent.specs.Outcome.{done}
 use Rattle.pattern.specs.Case.{upper}
 use Rattle.samtags.specs.Bytes.{ascii}
 use Rattle.samtags.specs.Edits.{cut_to, dropping_at, edited, masked_to}
@@ -72,11 +72,11 @@ abbrev pub worked_listings : List Listing
 worked_listings = record { header = ascii "C+m"; calls = worked_calls } ∷ []
 
 -- what SAMtags allows is accepted
-pub worked_accepted : read_tag true cs (ascii "C+m,5,12,0;") worked_ml ≡ done worked_listings
+pub worked_accepted : read_tag true cs (ascii "C+m,5,12,0;") worked_ml ≡ Ok worked_listings
 worked_accepted = meant_is_accepted true cs worked [] worked_ml (worked_calls ∷ []) worked_spelled worked_none_on_u worked_upper worked_means refl
 
 -- and what is accepted is meant
-worked_lists : lists true cs (ascii "C+m,5,12,0;") worked_ml ≡ done worked_listings
+worked_lists : lists true cs (ascii "C+m,5,12,0;") worked_ml ≡ Ok worked_listings
 unfolding lists
 worked_lists = refl
 
@@ -101,7 +101,7 @@ ml = 200 ∷ 90 ∷ 30 ∷ []
 abbrev listed : List Call → List Listing
 listed calls = record { header = ascii "C+m?"; calls = calls } ∷ []
 
-lists_three : lists true (ascii "ACCGTCC") text ml ≡ done (listed (at 1 (200 ∷ []) ∷ at 5 (90 ∷ []) ∷ at 6 (30 ∷ []) ∷ []))
+lists_three : lists true (ascii "ACCGTCC") text ml ≡ Ok (listed (at 1 (200 ∷ []) ∷ at 5 (90 ∷ []) ∷ at 6 (30 ∷ []) ∷ []))
 unfolding lists
 lists_three = refl
 
@@ -111,17 +111,17 @@ worked_differs = refl
 
 pub worked_mask :
     then_lists true (ascii "ANCGTCC") [] (edited (masked_to (ascii "ANCGTCC")) true (ascii "ACCGTCC") text ml)
-    ≡ done (listed (at 5 (90 ∷ []) ∷ at 6 (30 ∷ []) ∷ []))
+    ≡ Ok (listed (at 5 (90 ∷ []) ∷ at 6 (30 ∷ []) ∷ []))
 unfolding base_of upper
 worked_mask = mask_keeps_the_others true (ascii "ACCGTCC") (ascii "ANCGTCC") text ml _ [] lists_three worked_differs
 
 -- without the call at place 5
 pub worked_drop :
-    lists true (ascii "ACCGTCC") (ascii "C+m?,0,2;") (200 ∷ 30 ∷ []) ≡ done (listed (at 1 (200 ∷ []) ∷ at 6 (30 ∷ []) ∷ []))
+    lists true (ascii "ACCGTCC") (ascii "C+m?,0,2;") (200 ∷ 30 ∷ []) ≡ Ok (listed (at 1 (200 ∷ []) ∷ at 6 (30 ∷ []) ∷ []))
 unfolding edited dropping_at
 worked_drop = drop_keeps_the_others true (ascii "ACCGTCC") text ml _ lists_three [] (5 ∷ []) (record { text = ascii "C+m?,0,2;"; ml = 200 ∷ 30 ∷ [] }) refl
 
 -- three bases off the front and one off the back
-pub worked_cut : lists true (ascii "GTC") (ascii "C+m?,0;") (90 ∷ []) ≡ done (listed (at 2 (90 ∷ []) ∷ []))
+pub worked_cut : lists true (ascii "GTC") (ascii "C+m?,0;") (90 ∷ []) ≡ Ok (listed (at 2 (90 ∷ []) ∷ []))
 unfolding edited cut_to
 worked_cut = cut_keeps_the_others true (ascii "ACCGTCC") text ml _ lists_three [] 3 3 (record { text = ascii "C+m?,0;"; ml = 90 ∷ [] }) (omega arith) refl

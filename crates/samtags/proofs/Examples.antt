@@ -1,17 +1,17 @@
 -- The session of the scope's program, by computation. Then a dozen worked values: SAMtags' own examples, and the smaller definitions. The scope's examples
 -- (a) to (l) are in the crate `edges`.
 -- Assumes nothing.
+use Rattle.std.specs.Prelude.{Ok, None}
 use mathlib.Core.Path.{◌≡◌, refl, sym, ap, ◌∙◌}
 use Prim.Native.Nat.{ℕ}
 use Prim.Native.String.{String}
 use mathlib.Core.Bool.{true, false}
 use mathlib.Core.List.{List, [], ◌∷◌, map}
-use mathlib.Core.Option.{none}
 use lib.ListN.{replicate}
 use Rattle.samtags.specs.Bytes.{ascii}
 use Rattle.samtags.specs.Decimal.{digits, value}
 use Rattle.samtags.specs.Text.{codes_of, values_per, ends_in_question}
-use Rattle.lent.specs.Outcome.{Outcome, done, refuse, and_then}
+use Rattle.lent.specs.Outcome.{Outcome, refuse, and_then}
 use Rattle.samtags.specs.Spots.{Call, Listing}
 use Rattle.samtags.specs.Reading.{read_tag, call_list}
 use Rattle.samtags.specs.Samtags.{Header, header_text, is_header}
@@ -27,13 +27,13 @@ use Rattle.samtags.proofs.OneSpelling.{header_back, header_in}
 -- the calls of each group: places and values
 unfoldable pub calls : List ℕ → String → List ℕ → Outcome (List (List Call))
 unfolding read_tag
-calls seq text ml = and_then (read_tag true seq (ascii text) ml) (λ ls. done (map (λ (l : Listing). l.calls) ls))
+calls seq text ml = and_then (read_tag true seq (ascii text) ml) (λ ls. Ok (map (λ (l : Listing). l.calls) ls))
 
 abbrev pub at : ℕ → List ℕ → Call
 at p vs = record { place = p; values = vs }
 
 abbrev pub tag : String → List ℕ → Outcome Tag
-tag text ml = done (record { text = ascii text; ml = ml })
+tag text ml = Ok (record { text = ascii text; ml = ml })
 
 -- the session of the scope's program
 abbrev pub opened : Held
@@ -56,9 +56,9 @@ abbrev pub cs : List ℕ
 cs = replicate 20 67
 
 pub samtags_examples :
-    (calls cs "C+m,5,12,0;" (1 ∷ 2 ∷ 3 ∷ []) ≡ done ((at 5 (1 ∷ []) ∷ at 18 (2 ∷ []) ∷ at 19 (3 ∷ []) ∷ []) ∷ []))
-    × (calls (replicate 20 71) "G-m,14;" (1 ∷ []) ≡ done ((at 14 (1 ∷ []) ∷ []) ∷ []))
-    × (calls cs "C+mh,5,12;" (1 ∷ 2 ∷ 3 ∷ 4 ∷ []) ≡ done ((at 5 (1 ∷ 2 ∷ []) ∷ at 18 (3 ∷ 4 ∷ []) ∷ []) ∷ []))
+    (calls cs "C+m,5,12,0;" (1 ∷ 2 ∷ 3 ∷ []) ≡ Ok ((at 5 (1 ∷ []) ∷ at 18 (2 ∷ []) ∷ at 19 (3 ∷ []) ∷ []) ∷ []))
+    × (calls (replicate 20 71) "G-m,14;" (1 ∷ []) ≡ Ok ((at 14 (1 ∷ []) ∷ []) ∷ []))
+    × (calls cs "C+mh,5,12;" (1 ∷ 2 ∷ 3 ∷ 4 ∷ []) ≡ Ok ((at 5 (1 ∷ 2 ∷ []) ∷ at 18 (3 ∷ 4 ∷ []) ∷ []) ∷ []))
 unfolding calls
 samtags_examples = (refl, refl, refl)
 
@@ -69,7 +69,7 @@ pub worked_values :
     × (digits 16000 ≡ ascii "16000")
     × (value (ascii "00016000") ≡ 16000)
     × (mask_tag true (ascii "C") (ascii "C") (ascii "C+m?,00;") (7 ∷ []) 100 100 ≡ tag "C+m?,0;" (7 ∷ []))
-    × (cut_tag true none (ascii "ACGT") (ascii "ACGT") [] [] 0 0 ≡ refuse 21)
+    × (cut_tag true None (ascii "ACGT") (ascii "ACGT") [] [] 0 0 ≡ refuse 21)
 unfolding values_per ends_in_question digits value mask_tag cut_tag
 worked_values = (refl, refl, refl, refl, refl, refl)
 
@@ -86,8 +86,8 @@ order_of_refusals = (refl, refl, refl, refl, refl)
 
 -- the call list: groups from 1, and where each call's values start
 pub call_list_example :
-    and_then (read_tag true (ascii "CGC") (ascii "C+mh?,0,0;G-m?;N+n?,2;") (1 ∷ 2 ∷ 3 ∷ 4 ∷ 5 ∷ [])) (λ ls. done (call_list ls))
-    ≡ done (
+    and_then (read_tag true (ascii "CGC") (ascii "C+mh?,0,0;G-m?;N+n?,2;") (1 ∷ 2 ∷ 3 ∷ 4 ∷ 5 ∷ [])) (λ ls. Ok (call_list ls))
+    ≡ Ok (
     record { group = 1; place = 0; start = 0 }
     ∷ record { group = 1; place = 2; start = 2 }
     ∷ record { group = 3; place = 2; start = 4 }

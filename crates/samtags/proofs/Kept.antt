@@ -1,6 +1,7 @@
 -- After a drop or a cut the tag lists what it listed, without the calls that went. Every other call keeps its values and its place; after a cut the place
 -- is smaller by the number of bases cut off before it. Some bases that a cut leaves may be masked by N or n. (The law of a mask is in Masking.)
 -- Assumes nothing.
+use Rattle.std.specs.Prelude.{Ok}
 use mathlib.Core.Path.{◌∙◌, ◌≡◌, ap, refl, sym}
 use Prim.Native.Nat.{◌+◌, ◌-◌, ◌≤◌, suc, ℕ}
 use native.Mathlib.Omega.{arith}
@@ -13,7 +14,6 @@ use Rattle.lent.proofs.Lists.{drop_step, every_filter, filter_ext, filter_filter
 use Rattle.lent.proofs.Outcome.{and_then_inv, done_inj, need_rest}
 use Rattle.lent.proofs.Tests.{and_true_l, and_true_r, by-test}
 use Rattle.lent.specs.Lists.{among, every, filter}
-use Rattle.lent.specs.Outcome.{done}
 use Rattle.pattern.specs.Case.{upper}
 use Rattle.samtags.proofs.Read.{may_drop, tag_fits, tag_read, tag_some}
 use Rattle.samtags.proofs.ReadWritten.{AllFit, Fits, sized}
@@ -156,31 +156,31 @@ module _ (a : ℕ) (after : List ℕ) where
 
 -- ---- what the edited tag lists
 
-module _ (ml? : Bool) (seq text ml : List ℕ) (ls : List Listing) (reads : lists ml? seq text ml ≡ done ls) (lent : List ℕ) where
+module _ (ml? : Bool) (seq text ml : List ℕ) (ls : List Listing) (reads : lists ml? seq text ml ≡ Ok ls) (lent : List ℕ) where
   -- groups that F makes of those that are read, and G of their listings
   then_lists : (after : List ℕ) (F : Group → Group) (G : Listing → Listing) → ((g : Group) → listing (F g) ≡ G (listing g)) → (gs : List Group)
       → map listing gs ≡ ls
-      → read ml? nowhere after (written (map F gs)).text (cond ml? (written (map F gs)).ml lent) ≡ done (map F gs)
-      → lists ml? after (written (map F gs)).text (cond ml? (written (map F gs)).ml lent) ≡ done (map G ls)
+      → read ml? nowhere after (written (map F gs)).text (cond ml? (written (map F gs)).ml lent) ≡ Ok (map F gs)
+      → lists ml? after (written (map F gs)).text (cond ml? (written (map F gs)).ml lent) ≡ Ok (map G ls)
   unfolding lists
   then_lists after F G h gs e r =
-      rw r (ap done (map-map listing F gs ∙ map_ext (λ g. listing (F g)) (λ g. G (listing g)) h gs ∙ sym (map-map G listing gs) ∙ ap (map G) e))
+      rw r (ap Ok (map-map listing F gs ∙ map_ext (λ g. listing (F g)) (λ g. G (listing g)) h gs ∙ sym (map-map G listing gs) ∙ ap (map G) e))
 
   -- A drop that is done leaves every other call at its place with its values.
-  pub drop_keeps_the_others : (ps : List ℕ) (r : Tag) → edited (dropping_at ps) ml? seq text ml ≡ done r
-      → lists ml? seq r.text (cond ml? r.ml lent) ≡ done (map (without_calls_at ps) ls)
+  pub drop_keeps_the_others : (ps : List ℕ) (r : Tag) → edited (dropping_at ps) ml? seq text ml ≡ Ok r
+      → lists ml? seq r.text (cond ml? r.ml lent) ≡ Ok (map (without_calls_at ps) ls)
   unfolding lists
   drop_keeps_the_others ps r e =
       let (gs, read-gs, listed) = and_then_inv (read ml? nowhere seq text ml) _ ls reads in
       let is : written (map (drop_group (among ps)) gs) ≡ r =
-      done_inj (need_rest (every (may_drop (among ps)) gs) 10 (done (written (map (drop_group (among ps)) gs))) r (sym (drop_answers ml? seq text ml gs read-gs ps) ∙ e)) in
+      done_inj (need_rest (every (may_drop (among ps)) gs) 10 (Ok (written (map (drop_group (among ps)) gs))) r (sym (drop_answers ml? seq text ml gs read-gs ps) ∙ e)) in
       rw (← is)
       (then_lists seq (drop_group (among ps)) (without_calls_at ps) (λ (g : Group). ap (λ (cs : List Call). record { header = g.header; calls = cs }) (calls_dropped (among ps) g.spots))
       gs (done_inj listed) (drop_reads ml? seq text ml gs read-gs (among ps) lent))
 
   -- A cut to the n bases from place a on leaves every call inside on its base, with its values.
-  pub cut_keeps_the_others : (a n : ℕ) (r : Tag) → a + n ≤ length seq → edited (cut_to a (window a n seq)) ml? seq text ml ≡ done r
-      → lists ml? (window a n seq) r.text (cond ml? r.ml lent) ≡ done (map (calls_in_window a n) ls)
+  pub cut_keeps_the_others : (a n : ℕ) (r : Tag) → a + n ≤ length seq → edited (cut_to a (window a n seq)) ml? seq text ml ≡ Ok r
+      → lists ml? (window a n seq) r.text (cond ml? r.ml lent) ≡ Ok (map (calls_in_window a n) ls)
   unfolding lists
   cut_keeps_the_others a n r h e =
       let (gs, read-gs, listed) = and_then_inv (read ml? nowhere seq text ml) _ ls reads in
@@ -190,14 +190,14 @@ module _ (ml? : Bool) (seq text ml : List ℕ) (ls : List Listing) (reads : list
       gs (done_inj listed) (cut_reads ml? seq text ml gs read-gs a n lent))
 
   -- the groups that a cut leaves
-  held_answers : (a : ℕ) (after : List ℕ) (gs : List Group) → read ml? nowhere seq text ml ≡ done gs
-      → edited (cut_to a after) ml? seq text ml ≡ done (written (map (held_group a after) gs))
+  held_answers : (a : ℕ) (after : List ℕ) (gs : List Group) → read ml? nowhere seq text ml ≡ Ok gs
+      → edited (cut_to a after) ml? seq text ml ≡ Ok (written (map (held_group a after) gs))
   unfolding edited cut_to
   held_answers a after gs read-gs = rw (read-gs, held_written a after gs)
 
-  held_reads : (a : ℕ) (after : List ℕ) (gs : List Group) → read ml? nowhere seq text ml ≡ done gs → lies_in after (drop a seq) ≡ true
+  held_reads : (a : ℕ) (after : List ℕ) (gs : List Group) → read ml? nowhere seq text ml ≡ Ok gs → lies_in after (drop a seq) ≡ true
       → read ml? nowhere after (written (map (held_group a after) gs)).text (cond ml? (written (map (held_group a after) gs)).ml lent)
-      ≡ done (map (held_group a after) gs)
+      ≡ Ok (map (held_group a after) gs)
   held_reads a after gs read-gs l =
       let cut = tag_read ml? nowhere (window a (length after) seq) _ _ _ (cut_reads ml? seq text ml gs read-gs a (length after) lent) in
       let some = tag_some (tag_read ml? nowhere seq text ml gs read-gs) in
@@ -205,8 +205,8 @@ module _ (ml? : Bool) (seq text ml : List ℕ) (ls : List Listing) (reads : list
 
   -- A cut to a window of SEQ from place a on, in which each byte is unchanged or masked by N or n, leaves every call whose base is still held on its base,
   -- with its values.
-  pub cut_keeps_the_held : (a : ℕ) (after : List ℕ) (r : Tag) → lies_in after (drop a seq) ≡ true → edited (cut_to a after) ml? seq text ml ≡ done r
-      → lists ml? after r.text (cond ml? r.ml lent) ≡ done (map (calls_held_in a after) ls)
+  pub cut_keeps_the_held : (a : ℕ) (after : List ℕ) (r : Tag) → lies_in after (drop a seq) ≡ true → edited (cut_to a after) ml? seq text ml ≡ Ok r
+      → lists ml? after r.text (cond ml? r.ml lent) ≡ Ok (map (calls_held_in a after) ls)
   unfolding lists
   cut_keeps_the_held a after r l e =
       let (gs, read-gs, listed) = and_then_inv (read ml? nowhere seq text ml) _ ls reads in

@@ -1,5 +1,6 @@
 -- An edited tag is no longer than the tag that came in: each call that goes saves at least one byte of text.
 -- Assumes nothing.
+use Rattle.std.specs.Prelude.{Ok}
 use mathlib.Core.Path.{◌≡◌, refl, ap, ◌∙◌, subst}
 use Prim.Native.Nat.{ℕ, zero, suc, ◌+◌, ◌*◌, ◌^◌, ◌≤◌, ◌<◌}
 use native.Mathlib.Omega.{arith}
@@ -16,7 +17,6 @@ use Rattle.lent.proofs.Lists.{filter_length}
 use Rattle.samtags.specs.Bytes.{comma, semicolon}
 use Rattle.samtags.specs.Decimal.{digits, value}
 use Rattle.samtags.specs.Text.{up_to, led_by, closed_by, push, base_of}
-use Rattle.lent.specs.Outcome.{done}
 use Rattle.samtags.specs.Spots.{Spot, bare, call, place_of, values_of, Group, calls_in}
 use Rattle.samtags.specs.Reading.{read}
 use Rattle.samtags.specs.Writing.{Tag, skips_from, entries_text, text_of, ml_of, written}
@@ -188,13 +188,13 @@ module _ (e : Edit) where
       )
 
   -- each call that goes saves at least one byte of text
-  pub each_call_saves : (ml? : Bool) (seq text ml : List ℕ) (gs : List Group) → read ml? e.dropped seq text ml ≡ done gs
+  pub each_call_saves : (ml? : Bool) (seq text ml : List ℕ) (gs : List Group) → read ml? e.dropped seq text ml ≡ Ok gs
       → length (text_of (map (changed e) gs)) + call_count gs ≤ length text + call_count (map (changed e) gs)
   each_call_saves ml? seq text ml gs r =
       omega (arith, groups_length (tag_read ml? e.dropped seq text ml gs r).groups, text_length text)
 
   -- the edited ML never weighs more than the ML that came in: its values are some of those
-  pub never_heavier : (w : ℕ → ℕ) (ml? : Bool) (seq text ml : List ℕ) (r : Tag) → edited e ml? seq text ml ≡ done r
+  pub never_heavier : (w : ℕ → ℕ) (ml? : Bool) (seq text ml : List ℕ) (r : Tag) → edited e ml? seq text ml ≡ Ok r
       → weight w r.ml ≤ weight w (cond ml? ml [])
   unfolding edited written
   never_heavier w ml? seq text ml r o =
@@ -204,7 +204,7 @@ module _ (e : Edit) where
       (omega (arith, ml_lighter w gs, ap (weight w) (tag_used (tag_read ml? e.dropped seq text ml gs i.1))))
 
   -- the edited text and ML are never longer than the text and ML that came in
-  pub never_longer : (ml? : Bool) (seq text ml : List ℕ) (r : Tag) → edited e ml? seq text ml ≡ done r
+  pub never_longer : (ml? : Bool) (seq text ml : List ℕ) (r : Tag) → edited e ml? seq text ml ≡ Ok r
       → (length r.text ≤ length text) × (length r.ml ≤ length (cond ml? ml []))
   unfolding edited written
   never_longer ml? seq text ml r o =

@@ -1,11 +1,11 @@
 -- The longest tag: every base is listed, so every skip is 0 and each entry takes two bytes. This tag reaches the bound on a built tag exactly.
 -- Assumes nothing.
+use Rattle.std.specs.Prelude.{Option, Some}
 use mathlib.Core.Path.{◌≡◌, refl, ap, ◌∙◌}
 use Prim.Native.Nat.{ℕ, zero, suc, ◌+◌, ◌*◌, ◌<◌}
 use native.Mathlib.Omega.{arith}
 use mathlib.Core.Bool.{Bool, true}
 use mathlib.Core.List.{List, [], ◌∷◌, ◌++◌, map, append-nil}
-use mathlib.Core.Option.{Option, some}
 use lib.ListN.{length, length-append, replicate, get_or-replicate}
 use Rattle.lent.specs.Lists.{concat_map}
 use Rattle.pattern.specs.Case.{upper, same_in_any_case}
@@ -23,28 +23,28 @@ use Rattle.samtags.proofs.OwnTag.{own_called, some_values, joined_text, joined_m
 abbrev pub all_seen : ℕ → Evidence
 all_seen n = columns (replicate n 1) (replicate n 1) (replicate n 0)
 
-is_called : (mode : MethylationMode) (n j : ℕ) → j < n → called_at mode (all_seen n) j ≡ some (ml_value (numerator mode 1 0) 1)
+is_called : (mode : MethylationMode) (n j : ℕ) → j < n → called_at mode (all_seen n) j ≡ Some (ml_value (numerator mode 1 0) 1)
 unfolding called_at called
 is_called mode n j h = rw (get_or-replicate {A = ℕ} n j 1 0 h, get_or-replicate {A = ℕ} n j 0 0 h)
 
 -- where every place from i on has a call
 module _ (f : ℕ → Option ℕ) (v : ℕ) (t : ℕ → Bool) (c : t 67 ≡ true) where
-  full_entries : (i n : ℕ) → ((j : ℕ) → j < n → f (i + j) ≡ some v)
+  full_entries : (i n : ℕ) → ((j : ℕ) → j < n → f (i + j) ≡ Some v)
       → length (entries_text (skips_from 0 (map (λ q. spot_at (f q) q) (places_from t i (replicate n 67))))) ≡ 2 * n
   unfolding digits
   full_entries i zero h = refl
   full_entries i (suc n) h =
       let z : i + 0 ≡ i = omega arith in
-      let here : f i ≡ some v = rw z at (h 0 (omega arith)) in
+      let here : f i ≡ Some v = rw z at (h 0 (omega arith)) in
       let rest = full_entries (suc i) n (λ (j : ℕ) (l : j < n). let e : suc i + j ≡ i + suc j = omega arith in rw e (h (suc j) (omega arith))) in
       rw (c, here) (omega (arith, rest))
 
-  full_values : (i n : ℕ) → ((j : ℕ) → j < n → f (i + j) ≡ some v)
+  full_values : (i n : ℕ) → ((j : ℕ) → j < n → f (i + j) ≡ Some v)
       → length (concat_map values_of (map (λ q. spot_at (f q) q) (places_from t i (replicate n 67)))) ≡ n
   full_values i zero h = refl
   full_values i (suc n) h =
       let z : i + 0 ≡ i = omega arith in
-      let here : f i ≡ some v = rw z at (h 0 (omega arith)) in
+      let here : f i ≡ Some v = rw z at (h 0 (omega arith)) in
       let rest = full_values (suc i) n (λ (j : ℕ) (l : j < n). let e : suc i + j ≡ i + suc j = omega arith in rw e (h (suc j) (omega arith))) in
       rw (c, here) (ap suc rest)
 
@@ -53,7 +53,7 @@ unfolding same_in_any_case upper
 c_is_c = refl
 
 module _ (mode : MethylationMode) (n : ℕ) where
-  full : (j : ℕ) → j < n → called_at mode (all_seen n) (0 + j) ≡ some (ml_value (numerator mode 1 0) 1)
+  full : (j : ℕ) → j < n → called_at mode (all_seen n) (0 + j) ≡ Some (ml_value (numerator mode 1 0) 1)
   full j h = let z : 0 + j ≡ j = omega arith in rw z (is_called mode n j h)
 
   -- one strand on n C

@@ -1,6 +1,7 @@
 -- A mask edit whose `after` differs from `before` only by N keeps every other call on its base. A counterexample shows that a call can move if `after`
 -- gains a letter.
 -- Assumes nothing.
+use Rattle.std.specs.Prelude.{Ok}
 use mathlib.Core.Path.{◌≡◌, refl, sym, ap, ◌∙◌}
 use Prim.Native.Nat.{ℕ, suc}
 use mathlib.Core.Bool.{Bool, true, false, cond, ◌&&◌, ◌||◌}
@@ -13,7 +14,7 @@ use Rattle.lent.proofs.Tests.{by-test, and_true_l, and_true_r}
 use Rattle.lent.proofs.Lists.{drop_step, get_d_step, map_ext}
 use Rattle.samtags.specs.Bytes.{ascii, letter_n}
 use Rattle.samtags.specs.Text.{base_of}
-use Rattle.lent.specs.Outcome.{Outcome, done, and_then}
+use Rattle.lent.specs.Outcome.{Outcome, and_then}
 use Rattle.samtags.specs.Spots.{Spot, bare, call, place_of, Group, Call, Listing, calls_in, listing}
 use Rattle.samtags.specs.Reading.{nowhere, read, lists}
 use Rattle.samtags.specs.Writing.{Tag, written}
@@ -77,25 +78,25 @@ abbrev pub then_lists : Bool → List ℕ → List ℕ → Outcome Tag → Outco
 then_lists ml? after lent o = and_then o (λ r. lists ml? after r.text (cond ml? r.ml lent))
 
 -- A mask edit whose after differs from before only by N is accepted, and leaves every call whose base is not masked at its place with its values.
-pub mask_keeps_the_others : (ml? : Bool) (before after text ml : List ℕ) (ls : List Listing) (lent : List ℕ) → lists ml? before text ml ≡ done ls
+pub mask_keeps_the_others : (ml? : Bool) (before after text ml : List ℕ) (ls : List Listing) (lent : List ℕ) → lists ml? before text ml ≡ Ok ls
     → differs_by_n before after ≡ true
-    → then_lists ml? after lent (edited (masked_to after) ml? before text ml) ≡ done (map (unmasked_calls after) ls)
+    → then_lists ml? after lent (edited (masked_to after) ml? before text ml) ≡ Ok (map (unmasked_calls after) ls)
 unfolding lists
 mask_keeps_the_others ml? before after text ml ls lent e d =
     let i = and_then_inv (read ml? nowhere before text ml) _ ls e in
     let gs = i.0 in
     let same = after_is_masked before after d in
-    let answers : edited (masked_to after) ml? before text ml ≡ done (written (map (mask_group (is_n after)) gs)) =
+    let answers : edited (masked_to after) ml? before text ml ≡ Ok (written (map (mask_group (is_n after)) gs)) =
     ap (λ (a : List ℕ). edited (masked_to a) ml? before text ml) (sym same) ∙ mask_answers ml? before text ml gs i.1 (is_n after) in
     let w = written (map (mask_group (is_n after)) gs) in
-    let reads : read ml? nowhere after w.text (cond ml? w.ml lent) ≡ done (map (mask_group (is_n after)) gs) =
+    let reads : read ml? nowhere after w.text (cond ml? w.ml lent) ≡ Ok (map (mask_group (is_n after)) gs) =
     ap (λ (a : List ℕ). read ml? nowhere a w.text (cond ml? w.ml lent)) (sym same) ∙ mask_reads ml? before text ml gs i.1 (is_n after) lent in
-    rw (answers, reads) (ap done (groups_unmasked after gs ∙ ap (map (unmasked_calls after)) (done_inj i.2)))
+    rw (answers, reads) (ap Ok (groups_unmasked after gs ∙ ap (map (unmasked_calls after)) (done_inj i.2)))
 
 -- If after gains a letter, a call can move: `C+m?,0;` on AC calls place 1. Masked to CC, the text is unchanged and calls place 0.
 pub gained_letter_moves_a_call :
-    (lists true (ascii "AC") (ascii "C+m?,0;") (7 ∷ []) ≡ done (record { header = ascii "C+m?"; calls = record { place = 1; values = 7 ∷ [] } ∷ [] } ∷ []))
-    × (edited (masked_to (ascii "CC")) true (ascii "AC") (ascii "C+m?,0;") (7 ∷ []) ≡ done (record { text = ascii "C+m?,0;"; ml = 7 ∷ [] }))
-    × (lists true (ascii "CC") (ascii "C+m?,0;") (7 ∷ []) ≡ done (record { header = ascii "C+m?"; calls = record { place = 0; values = 7 ∷ [] } ∷ [] } ∷ []))
+    (lists true (ascii "AC") (ascii "C+m?,0;") (7 ∷ []) ≡ Ok (record { header = ascii "C+m?"; calls = record { place = 1; values = 7 ∷ [] } ∷ [] } ∷ []))
+    × (edited (masked_to (ascii "CC")) true (ascii "AC") (ascii "C+m?,0;") (7 ∷ []) ≡ Ok (record { text = ascii "C+m?,0;"; ml = 7 ∷ [] }))
+    × (lists true (ascii "CC") (ascii "C+m?,0;") (7 ∷ []) ≡ Ok (record { header = ascii "C+m?"; calls = record { place = 0; values = 7 ∷ [] } ∷ [] } ∷ []))
 unfolding lists edited masked_to
 gained_letter_moves_a_call = (refl, refl, refl)

@@ -1,5 +1,6 @@
 -- What SAMtags allows is not refused: a tag that is spelled as SAMtags says and means some calls is read, and lists exactly these calls.
 -- Assumes nothing.
+use Rattle.std.specs.Prelude.{Ok}
 use mathlib.Core.Path.{◌≡◌, refl, sym, ap, ap₂, ◌∙◌}
 use Prim.Native.Nat.{ℕ, suc, ◌+◌, ◌*◌, ◌≤◌, ◌<◌}
 use native.Mathlib.Omega.{arith}
@@ -18,7 +19,6 @@ use Rattle.pattern.specs.Case.{upper}
 use Rattle.samtags.specs.Bytes.{ascii, comma, semicolon, is_digit, is_mark, is_ascii}
 use Rattle.samtags.specs.Decimal.{is_number, value}
 use Rattle.samtags.specs.Text.{closed_by, base_of, glue, without_marks, codes_of, values_per}
-use Rattle.lent.specs.Outcome.{done}
 use Rattle.samtags.specs.Spots.{Spot, bare, call, Group, Call, Listing, calls_in, listing, tracked}
 use Rattle.samtags.specs.Reading.{nowhere, read_spots, values_if, read_group, read_groups, read, lists, in_domain, read_tag}
 use Rattle.samtags.specs.Samtags.{letter_u, ordinal, no_call, GroupMeans, TagMeans, no_group, a_group, Piece, led_by_commas, piece_text, spelled, Header, is_code_letter, is_mark_text, is_header, header_text, code_count, Spelled, is_spelling, piece_of, meaning_of}
@@ -174,15 +174,15 @@ readable h e =
 
 one_read : (k : ℕ) (f : List ℕ) (fs : List (List ℕ)) (places ml : List ℕ) {p : ℕ} {rest : List ℕ} → is_number f ≡ true
     → drop (value f) places ≡ p ∷ rest → leb k (length ml) ≡ true
-    → (r : List Spot × List ℕ) → read_spots k nowhere fs rest (drop k ml) ≡ done r
-    → read_spots k nowhere (f ∷ fs) places ml ≡ done (map bare (take (value f) places) ++ call p (take k ml) ∷ r.0, r.1)
+    → (r : List Spot × List ℕ) → read_spots k nowhere fs rest (drop k ml) ≡ Ok r
+    → read_spots k nowhere (f ∷ fs) places ml ≡ Ok (map bare (take (value f) places) ++ call p (take k ml) ∷ r.0, r.1)
 unfolding read_spots
 one_read k f fs places ml num hop enough r e = rw (num, hop, enough, e)
 
 -- with n of the places passed, entries that point at places are read
 entries_read : (k : ℕ) (fs : List (List ℕ)) (whole ml : List ℕ) (n : ℕ) → every is_number fs ≡ true → length fs * k ≤ length ml
     → ((j : ℕ) → j < length fs → n + ordinal (map value fs) j < length whole)
-    → (r : List Spot × List ℕ) × (read_spots k nowhere fs (drop n whole) ml ≡ done r)
+    → (r : List Spot × List ℕ) × (read_spots k nowhere fs (drop n whole) ml ≡ Ok r)
 unfolding read_spots
 entries_read k [] whole ml n num long at = ((map bare (drop n whole), ml), refl)
 entries_read k (f ∷ fs) whole ml n num long at =
@@ -201,7 +201,7 @@ entries_read k (f ∷ fs) whole ml n num long at =
 -- the entries of a group that means these calls are read as them
 calls_read : (b k : ℕ) (fs : List (List ℕ)) (seq ml : List ℕ) (cs : List Call) → upper b ≡ b → eqb b letter_u ≡ false → upper_case seq ≡ true
     → every is_number fs ≡ true → length fs * k ≤ length ml → GroupMeans seq ml (record { base = b; per = k; skips = map value fs }) cs
-    → (ss : List Spot) × (read_spots k nowhere fs (tracked b seq) ml ≡ done (ss, drop (length fs * k) ml)) × (calls_in ss ≡ cs)
+    → (ss : List Spot) × (read_spots k nowhere fs (tracked b seq) ml ≡ Ok (ss, drop (length fs * k) ml)) × (calls_in ss ≡ cs)
 calls_read b k fs seq ml cs ub nu u num long g =
     let size : length (map value fs) ≡ length fs = length-map fs value in
     let whole = tracked b seq in
@@ -211,7 +211,7 @@ calls_read b k fs seq ml cs ub nu u num long g =
     let m = entries_mean (spots_read k nowhere fs whole ml r.0 r.1) 0 whole refl in
     let many : length (calls_in r.0.0) ≡ length cs = m.as_many ∙ sym size ∙ sym g.as_many_of in (
       r.0.0,
-      r.1 ∙ ap (λ (l : List ℕ). done (r.0.0, l)) m.rest,
+      r.1 ∙ ap (λ (l : List ℕ). Ok (r.0.0, l)) m.rest,
       ext_get_or no_call (calls_in r.0.0) cs many (λ j h.
           let j-lt : j < length fs = omega (arith, m.as_many) in
           let z : 0 + ordinal (map value fs) j ≡ ordinal (map value fs) j = omega arith in
@@ -229,7 +229,7 @@ taken ml? s = length s.skips * cond ml? (code_count s.header) 0
 
 group_read : (ml? : Bool) (seq : List ℕ) (s : Spelled) (ml : List ℕ) (cs : List Call) → is_spelling s ≡ true → eqb s.header.base letter_u ≡ false
     → upper_case seq ≡ true → taken ml? s ≤ length ml → GroupMeans seq ml (meaning_of ml? s) cs
-    → (g : Group) × (read_group ml? nowhere seq (header_text s.header ++ led_by_commas s.skips) ml ≡ done (g, drop (taken ml? s) ml)) × (listing g ≡ listing_of s cs)
+    → (g : Group) × (read_group ml? nowhere seq (header_text s.header ++ led_by_commas s.skips) ml ≡ Ok (g, drop (taken ml? s) ml)) × (listing g ≡ listing_of s cs)
 unfolding read_group is_spelling meaning_of values_if
 group_read ml? seq s ml cs ok nu u long means =
     let h = header_text s.header in
@@ -273,15 +273,15 @@ spelled_closed s ss ok =
     group_of (header_text s.header) s.skips num (spelling ss) p.no_semi
 
 group_and_rest : (ml? : Bool) (seq : List ℕ) (s : Spelled) (ss : List Spelled) (ml : List ℕ) → is_spelling s ≡ true → (g : Group) {left : List ℕ}
-    → read_group ml? nowhere seq (header_text s.header ++ led_by_commas s.skips) ml ≡ done (g, left)
-    → (gs : List Group) → read_groups ml? nowhere seq (closed_by semicolon (spelling ss)) left ≡ done gs
-    → read_groups ml? nowhere seq (closed_by semicolon (spelling (s ∷ ss))) ml ≡ done (g ∷ gs)
+    → read_group ml? nowhere seq (header_text s.header ++ led_by_commas s.skips) ml ≡ Ok (g, left)
+    → (gs : List Group) → read_groups ml? nowhere seq (closed_by semicolon (spelling ss)) left ≡ Ok gs
+    → read_groups ml? nowhere seq (closed_by semicolon (spelling (s ∷ ss))) ml ≡ Ok (g ∷ gs)
 unfolding read_groups
 group_and_rest ml? seq s ss ml ok g e gs f = rw (spelled_closed s ss ok, e, f)
 
 groups_read : (ml? : Bool) (seq : List ℕ) (ss : List Spelled) (ml : List ℕ) (css : List (List Call)) → every is_spelling ss ≡ true → none_on_u ss ≡ true
     → upper_case seq ≡ true → TagMeans seq ml (map (meaning_of ml?) ss) css
-    → (gs : List Group) × (read_groups ml? nowhere seq (closed_by semicolon (spelling ss)) ml ≡ done gs) × (map listing gs ≡ listings_of ss css)
+    → (gs : List Group) × (read_groups ml? nowhere seq (closed_by semicolon (spelling ss)) ml ≡ Ok gs) × (map listing gs ≡ listings_of ss css)
 unfolding read_groups
 groups_read ml? seq [] ml css ok nu u no_group = ([], refl, refl)
 groups_read ml? seq (s ∷ ss) ml css ok nu u (a_group {calls = cs} {rest = rest} here long more) =
@@ -321,17 +321,17 @@ spelled_last d s ss =
 pub meant_is_read : (ml? : Bool) (seq : List ℕ) (s : Spelled) (ss : List Spelled) (ml : List ℕ) (css : List (List Call))
     → every is_spelling (s ∷ ss) ≡ true → none_on_u (s ∷ ss) ≡ true → upper_case seq ≡ true
     → TagMeans seq (cond ml? ml []) (map (meaning_of ml?) (s ∷ ss)) css
-    → lists ml? seq (spelled (map piece_of (s ∷ ss))) ml ≡ done (listings_of (s ∷ ss) css)
+    → lists ml? seq (spelled (map piece_of (s ∷ ss))) ml ≡ Ok (listings_of (s ∷ ss) css)
 unfolding lists read
 meant_is_read ml? seq s ss ml css ok nu u means =
     let r = groups_read ml? seq (s ∷ ss) (cond ml? ml []) css ok nu u means in
-    rw (spelled_low (s ∷ ss) ok, spelled_last 0 s ss, r.1) (ap done r.2)
+    rw (spelled_low (s ∷ ss) ok, spelled_last 0 s ss, r.1) (ap Ok r.2)
 
 -- Within the domain, the public reader accepts it too.
 pub meant_is_accepted : (ml? : Bool) (seq : List ℕ) (s : Spelled) (ss : List Spelled) (ml : List ℕ) (css : List (List Call))
     → every is_spelling (s ∷ ss) ≡ true → none_on_u (s ∷ ss) ≡ true → upper_case seq ≡ true
     → TagMeans seq (cond ml? ml []) (map (meaning_of ml?) (s ∷ ss)) css → in_domain ml? seq (spelled (map piece_of (s ∷ ss))) ml ≡ true
-    → read_tag ml? seq (spelled (map piece_of (s ∷ ss))) ml ≡ done (listings_of (s ∷ ss) css)
+    → read_tag ml? seq (spelled (map piece_of (s ∷ ss))) ml ≡ Ok (listings_of (s ∷ ss) css)
 unfolding read_tag
 meant_is_accepted ml? seq s ss ml css ok nu u means fits = rw fits (meant_is_read ml? seq s ss ml css ok nu u means)
 
@@ -357,7 +357,7 @@ spelled_entries ml? (s ∷ ss) ok =
 
 -- For a tag spelled as SAMtags says, on an upper-case SEQ and with no group on U, the reader lists exactly the calls that SAMtags gives its groups.
 pub read_is_meant : (ml? : Bool) (seq : List ℕ) (ss : List Spelled) (ml : List ℕ) (ls : List Listing) → every is_spelling ss ≡ true
-    → upper_case seq ≡ true → no_u ls ≡ true → lists ml? seq (spelled (map piece_of ss)) ml ≡ done ls
+    → upper_case seq ≡ true → no_u ls ≡ true → lists ml? seq (spelled (map piece_of ss)) ml ≡ Ok ls
     → TagMeans seq (cond ml? ml []) (map (meaning_of ml?) ss) (calls_of ls)
 read_is_meant ml? seq ss ml ls ok u n e = rw (← spelled_entries ml? ss ok) (tag_means ml? seq (spelling ss) ml ls e u n)
 
@@ -400,7 +400,7 @@ none_on_u_lem (s ∷ ss) (cs ∷ css) ok nu =
 -- The same with nothing asked of the listings: spelled as SAMtags says, none on U, on an upper-case SEQ. Each listing has its group's header as
 -- spelled.
 pub spelled_is_meant : (ml? : Bool) (seq : List ℕ) (ss : List Spelled) (ml : List ℕ) (ls : List Listing) → every is_spelling ss ≡ true
-    → none_on_u ss ≡ true → upper_case seq ≡ true → lists ml? seq (spelled (map piece_of ss)) ml ≡ done ls
+    → none_on_u ss ≡ true → upper_case seq ≡ true → lists ml? seq (spelled (map piece_of ss)) ml ≡ Ok ls
     → (ls ≡ listings_of ss (calls_of ls)) × TagMeans seq (cond ml? ml []) (map (meaning_of ml?) ss) (calls_of ls)
 spelled_is_meant ml? seq ss ml ls ok nu u e =
     let are = by_headers ss ls (listed_headers ml? seq (spelling ss) ml ls e ∙ spelled_headers ss ok) in

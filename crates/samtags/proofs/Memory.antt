@@ -1,5 +1,6 @@
 -- Demand 3 about memory: if each step gets the session's buffers as the previous step left them, the buffers hold what the session means.
 -- Assumes nothing.
+use Rattle.std.specs.Prelude.{Ok, Err}
 use mathlib.Core.Path.{◌≡◌, refl, ap, ◌∙◌}
 use Prim.Native.Nat.{ℕ, ◌+◌, ◌-◌, ◌≤◌, ◌<◌}
 use native.Mathlib.Omega.{arith}
@@ -11,7 +12,7 @@ use borrow.Author.Tests.{leb-true, le-leb}
 use Rattle.lent.specs.Lists.{among}
 use Rattle.lent.proofs.Tests.{by-test, and_true, and_true_l, and_true_r}
 use Rattle.lent.proofs.Filled.{over_front, length_over}
-use Rattle.lent.specs.Outcome.{Outcome, refused, done, and_then, number_of}
+use Rattle.lent.specs.Outcome.{Outcome, and_then, number_of}
 use Rattle.samtags.specs.Spots.{Listing}
 use Rattle.samtags.specs.Reading.{lists}
 use Rattle.samtags.specs.Writing.{Tag}
@@ -33,17 +34,17 @@ pub record No-longer (ml? : Bool) (h s : Held) : Type 0 where
 
 -- what an outcome gives, if it gives anything, is no longer
 abbrev pub Shrinks : Bool → Held → Outcome Held → Type 0
-Shrinks ml? h (refused r) = Unit {0}
-Shrinks ml? h (done s) = No-longer ml? h s
+Shrinks ml? h (Err r) = Unit {0}
+Shrinks ml? h (Ok s) = No-longer ml? h s
 
 shrinks_with : (ml? : Bool) (h : Held) (after : List ℕ) → length after ≤ length h.seq → (o : Outcome Tag)
-    → ((r : Tag) → o ≡ done r → (length r.text ≤ length h.text) × (length r.ml ≤ length (cond ml? h.ml [])))
-    → ((w : ℕ → ℕ) (r : Tag) → o ≡ done r → weight w r.ml ≤ weight w (cond ml? h.ml []))
+    → ((r : Tag) → o ≡ Ok r → (length r.text ≤ length h.text) × (length r.ml ≤ length (cond ml? h.ml [])))
+    → ((w : ℕ → ℕ) (r : Tag) → o ≡ Ok r → weight w r.ml ≤ weight w (cond ml? h.ml []))
     → Shrinks ml? h (held_with ml? h after o)
-shrinks_with ml? h after l (refused r) f g = tt
-shrinks_with true h after l (done r) f g =
+shrinks_with ml? h after l (Err r) f g = tt
+shrinks_with true h after l (Ok r) f g =
     record { seq_in = l; text_in = (f r refl).0; ml_in = (f r refl).1; ml_lighter = λ w. g w r refl; ml_kept = λ e. cc }
-shrinks_with false h after l (done r) f g =
+shrinks_with false h after l (Ok r) f g =
     record { seq_in = l; text_in = (f r refl).0; ml_in = omega arith; ml_lighter = λ w. omega arith; ml_kept = λ e. refl }
 
 window_length : (a n : ℕ) (xs : List ℕ) → length (window a n xs) ≤ length xs
@@ -157,15 +158,15 @@ pub record Follows (ml? : Bool) (m : Memory) (o : Outcome Held) (r : Outcome Mem
   pub order_then : In-order ml? (after_step m r)
 
 follows : (ml? : Bool) (m : Memory) → In-order ml? m → (o : Outcome Held) → Shrinks ml? (held_in m) o
-    → Follows ml? m o (and_then o (λ s. done (stored ml? m s)))
-follows ml? m i (refused r) w = record { held_then = refl; number_then = refl; order_then = i }
-follows ml? m i (done s) w =
+    → Follows ml? m o (and_then o (λ s. Ok (stored ml? m s)))
+follows ml? m i (Err r) w = record { held_then = refl; number_then = refl; order_then = i }
+follows ml? m i (Ok s) w =
     record { held_then = stored_held m s ml? w; number_then = refl; order_then = stored_in_order m s ml? i w }
 
 pub step_follows : (ml? : Bool) (t : Step) (m : Memory) → In-order ml? m → Follows ml? m (stepped ml? t (held_in m)) (step_in_memory ml? t m)
 unfolding step_in_memory
 step_follows ml? t m i =
-    rw (in_order_is ml? m i (and_then (stepped ml? t (held_in m)) (λ s. done (stored ml? m s))))
+    rw (in_order_is ml? m i (and_then (stepped ml? t (held_in m)) (λ s. Ok (stored ml? m s))))
     (follows ml? m i (stepped ml? t (held_in m)) (step_shrinks ml? t (held_in m)))
 
 pub run_follows : (ml? : Bool) (ts : List Step) (m : Memory) → In-order ml? m
@@ -192,12 +193,12 @@ pub record Session-in-memory (ml? : Bool) (m : Memory) (ls : List Listing) (ts :
   pub seq_then : (held_in (run_in_memory ml? ts m)).seq ≡ left_of_seq (after_steps ls ts (opening (held_in m).seq)) (held_in m).seq
   pub lists_then :
       (let h = held_in (run_in_memory ml? ts m) in lists ml? h.seq h.text h.ml)
-      ≡ done (map (left_of_listing (after_steps ls ts (opening (held_in m).seq))) ls)
+      ≡ Ok (map (left_of_listing (after_steps ls ts (opening (held_in m).seq))) ls)
   pub answers_then : answers_in_memory ml? ts m ≡ answers_to ls ts (opening (held_in m).seq)
 
 -- a session whose opening is accepted
-opened_in_order : (ml? : Bool) (m : Memory) (ls : List Listing) → open_session ml? m ≡ done ls
-    → In-order ml? m × (lists ml? (held_in m).seq (held_in m).text (held_in m).ml ≡ done ls)
+opened_in_order : (ml? : Bool) (m : Memory) (ls : List Listing) → open_session ml? m ≡ Ok ls
+    → In-order ml? m × (lists ml? (held_in m).seq (held_in m).text (held_in m).ml ≡ Ok ls)
 unfolding open_session
 opened_in_order ml? m ls e =
     let e₂ = need_rest (lengths_in_domain ml? m.lengths) 1 _ ls e in (
@@ -206,7 +207,7 @@ opened_in_order ml? m ls e =
     )
 
 -- Demand 3: a session whose opening is accepted, with or without ML and on buffers of any length, results in what it means, whatever its steps.
-pub session_in_memory : (ml? : Bool) (m : Memory) (ls : List Listing) → open_session ml? m ≡ done ls → (ts : List Step) → Session-in-memory ml? m ls ts
+pub session_in_memory : (ml? : Bool) (m : Memory) (ls : List Listing) → open_session ml? m ≡ Ok ls → (ts : List Step) → Session-in-memory ml? m ls ts
 session_in_memory ml? m ls e ts =
     let o = opened_in_order ml? m ls e in
     let f = run_follows ml? ts m o.0 in
@@ -218,21 +219,21 @@ session_in_memory ml? m ls e ts =
     }
 
 -- The refused steps are exactly the drops of a listed call under a header that doesn't end in '?', and the cuts of more than SEQ holds.
-pub refused_exactly : (ml? : Bool) (m : Memory) (ls : List Listing) → open_session ml? m ≡ done ls → (ts : List Step)
+pub refused_exactly : (ml? : Bool) (m : Memory) (ls : List Listing) → open_session ml? m ≡ Ok ls → (ts : List Step)
     → map is_refusal (answers_in_memory ml? ts m) ≡ refused_steps ls ts (opening (held_in m).seq)
 refused_exactly ml? m ls e ts = rw (session_in_memory ml? m ls e ts).answers_then (refused_steps_lem ls ts (opening (held_in m).seq))
 
 -- a step that answers a number other than 0, a refusal's or 21, changes nothing, whatever the step does otherwise
 pub unchanged : (m : Memory) (o : Outcome Memory) → 0 < number_of o → after_step m o ≡ m
-unchanged m (refused r) h = refl
-unchanged m (done n) h = let z : ⊥ = omega arith in absurd z
+unchanged m (Err r) h = refl
+unchanged m (Ok n) h = let z : ⊥ = omega arith in absurd z
 
 pub refused_changes_nothing : (ml? : Bool) (t : Step) (m : Memory) → 0 < number_of (step_in_memory ml? t m) → after_step m (step_in_memory ml? t m) ≡ m
 refused_changes_nothing ml? t m h = unchanged m (step_in_memory ml? t m) h
 
 -- Such a session can be opened again after any steps, and then lists what is left.
-pub opens_again : (ml? : Bool) (m : Memory) (ls : List Listing) → open_session ml? m ≡ done ls → (ts : List Step)
-    → open_session ml? (run_in_memory ml? ts m) ≡ done (map (left_of_listing (after_steps ls ts (opening (held_in m).seq))) ls)
+pub opens_again : (ml? : Bool) (m : Memory) (ls : List Listing) → open_session ml? m ≡ Ok ls → (ts : List Step)
+    → open_session ml? (run_in_memory ml? ts m) ≡ Ok (map (left_of_listing (after_steps ls ts (opening (held_in m).seq))) ls)
 unfolding open_session
 opens_again ml? m ls e ts =
     in_order_is ml? (run_in_memory ml? ts m) (run_in_order ml? ts m (opened_in_order ml? m ls e).0) _

@@ -1,17 +1,17 @@
 -- The numbers with which the definitions can refuse: reading, the edits, building, and the session's opening and steps.
 -- Assumes nothing.
+use Rattle.std.specs.Prelude.{Ok, Err, Option, None, Some}
 use mathlib.Core.Path.{◌≡◌, refl, sym, ap, ◌∙◌}
 use Prim.Native.Nat.{ℕ, zero, suc, ◌+◌, ◌-◌}
 use native.Mathlib.Omega.{arith}
 use Prim.Native.String.{String}
 use mathlib.Core.Bool.{Bool, true, false, cond, not, ◌&&◌}
 use mathlib.Core.List.{List, [], ◌∷◌, ◌++◌, map}
-use mathlib.Core.Option.{Option, none, some}
 use lib.ListN.{length, drop, replicate}
 use lib.Dec.{leb, eqb}
 use borrow.Author.Tests.{le-leb}
 use Rattle.lent.specs.Lists.{among, every, is_empty, last_or}
-use Rattle.lent.specs.Outcome.{Outcome, refused, done, need, and_then, number_of}
+use Rattle.lent.specs.Outcome.{Outcome, need, and_then, number_of}
 use Rattle.lent.specs.Answers.{refuses_only}
 use Rattle.lent.proofs.Answers.{only_need, only_and_then, only_with_first}
 use Rattle.lent.proofs.Outcome.{and_then_inv, done_inj, need_rest}
@@ -50,7 +50,7 @@ none_dropped zero = refl
 none_dropped (suc k) = refl
 
 spots_left : (k : ℕ) (denied : ℕ → Bool) (fs : List (List ℕ)) (places ml : List ℕ) (r : List Spot × List ℕ) → ml ≡ []
-    → read_spots k denied fs places ml ≡ done r → r.1 ≡ []
+    → read_spots k denied fs places ml ≡ Ok r → r.1 ≡ []
 unfolding read_spots
 spots_left k denied [] places ml r z e = ap (λ (x : List Spot × List ℕ). x.1) (sym (done_inj e)) ∙ z
 spots_left k denied (f ∷ fs) places ml r z e =
@@ -59,7 +59,7 @@ spots_left k denied (f ∷ fs) places ml r z e =
     ap (λ (x : List Spot × List ℕ). x.1) (sym (done_inj j.2))
     ∙ spots_left k denied fs i.0.1 (drop k ml) j.0 (ap (drop k) z ∙ none_dropped k) j.1
 
-group_left : (ml? : Bool) (named : ℕ → Bool) (seq g ml : List ℕ) (r : Group × List ℕ) → ml ≡ [] → read_group ml? named seq g ml ≡ done r → r.1 ≡ []
+group_left : (ml? : Bool) (named : ℕ → Bool) (seq g ml : List ℕ) (r : Group × List ℕ) → ml ≡ [] → read_group ml? named seq g ml ≡ Ok r → r.1 ≡ []
 unfolding read_group
 group_left ml? named seq g ml r z e =
     let h = up_to comma g in
@@ -83,7 +83,7 @@ module _ (ns : List ℕ) (ml? : Bool) (texts : (n : ℕ) → among text_numbers 
   entry_only h f places n =
       only_need ns (is_number f) 6 _ (texts 6 refl)
       (only_with_first ns (drop (value f) places) 7 _ (texts 7 refl) (λ p rest.
-      eight_only h n (need (not (denied_to h named p)) 10 (done (p, rest)))
+      eight_only h n (need (not (denied_to h named p)) 10 (Ok (p, rest)))
       (by-test (denied_to h named p)
       (λ e. rw e (ten p (and_true_l (named p) (not (ends_in_question h)) e)))
       (λ e. rw e))))
@@ -106,11 +106,11 @@ module _ (ns : List ℕ) (ml? : Bool) (texts : (n : ℕ) → among text_numbers 
 
   -- a group, and the others with what values it leaves
   group_and_more : (seq : List ℕ) (gs : List (List ℕ)) (o : Outcome (Group × List ℕ)) → refuses_only ns o ≡ true
-      → ((r : Group × List ℕ) → o ≡ done r → ml? ≡ false → r.1 ≡ [])
+      → ((r : Group × List ℕ) → o ≡ Ok r → ml? ≡ false → r.1 ≡ [])
       → ((ml : List ℕ) → (ml? ≡ false → ml ≡ []) → refuses_only ns (read_groups ml? named seq gs ml) ≡ true)
-      → refuses_only ns (and_then o (λ r. and_then (read_groups ml? named seq gs r.1) (λ rest. done (r.0 ∷ rest)))) ≡ true
-  group_and_more seq gs (refused q) k left more = k
-  group_and_more seq gs (done r) k left more = only_and_then ns (read_groups ml? named seq gs r.1) _ (more r.1 (left r refl)) (λ rest. refl)
+      → refuses_only ns (and_then o (λ r. and_then (read_groups ml? named seq gs r.1) (λ rest. Ok (r.0 ∷ rest)))) ≡ true
+  group_and_more seq gs (Err q) k left more = k
+  group_and_more seq gs (Ok r) k left more = only_and_then ns (read_groups ml? named seq gs r.1) _ (more r.1 (left r refl)) (λ rest. refl)
 
   groups_only : (seq : List ℕ) (gs : List (List ℕ)) (ml : List ℕ) → (ml? ≡ false → ml ≡ []) → refuses_only ns (read_groups ml? named seq gs ml) ≡ true
   unfolding read_groups
@@ -210,8 +210,8 @@ cut_numbers = 1 ∷ 3 ∷ 4 ∷ 5 ∷ 6 ∷ 7 ∷ 8 ∷ 9 ∷ 11 ∷ 12 ∷ 21 �
 
 with_start_only : (ns : List ℕ) (start : Option ℕ) (f : ℕ → Outcome Tag) → among ns 11 ≡ true → ((lo : ℕ) → refuses_only ns (f lo) ≡ true)
     → refuses_only ns (with_start start f) ≡ true
-with_start_only ns none f eleven h = eleven
-with_start_only ns (some lo) f eleven h = h lo
+with_start_only ns None f eleven h = eleven
+with_start_only ns (Some lo) f eleven h = h lo
 
 pub cut_tag_only : (ml? : Bool) (start : Option ℕ) (before after text ml : List ℕ) (t m : ℕ)
     → refuses_only cut_numbers (cut_tag ml? start before after text ml t m) ≡ true
@@ -362,11 +362,11 @@ abbrev cuts : ℕ → Option ℕ → List ℕ → Held → ℕ
 cuts room start after h = number_of (cut_tag true start h.seq after h.text h.ml room room)
 
 pub cut_tag_each :
-    cuts 100 (some 0) [] good_tag
-    ∷ cuts 100 (some 0) [] long_tag
-    ∷ map (cuts 100 (some 0) []) bad_tags ++ cuts 100 none [] good_tag
-    ∷ cuts 0 (some 0) [] good_tag
-    ∷ cuts 100 none (ascii "C") good_tag
+    cuts 100 (Some 0) [] good_tag
+    ∷ cuts 100 (Some 0) [] long_tag
+    ∷ map (cuts 100 (Some 0) []) bad_tags ++ cuts 100 None [] good_tag
+    ∷ cuts 0 (Some 0) [] good_tag
+    ∷ cuts 100 None (ascii "C") good_tag
     ∷ []
     ≡ 0 ∷ cut_numbers
 unfolding cut_tag

@@ -1,12 +1,12 @@
 -- A strand's own tag is its group's tag if there is a chemistry and a call, and otherwise empty. The joined tag is the strands' own tags, one after the
 -- other.
 -- Assumes nothing.
+use Rattle.std.specs.Prelude.{Option, None, Some}
 use mathlib.Core.Path.{◌∙◌, ◌≡◌, ap, refl, sym}
 use Prim.Native.Nat.{◌<◌, suc, ℕ}
 use native.Mathlib.Omega.{arith}
 use mathlib.Core.Bool.{Bool, ◌&&◌, false, not, true}
 use mathlib.Core.List.{List, [], ◌++◌, ◌∷◌, append-nil, map}
-use mathlib.Core.Option.{Option, none, some}
 use lib.Dec.{eqb}
 use lib.ListN.{length}
 use borrow.Author.Tests.{ne_eqb}
@@ -48,8 +48,8 @@ spots_have f (p ∷ ps) = one (spots_have f ps) (f p)
     one : is_empty (calls_in (map (λ q. spot_at (f q) q) ps)) ≡ eqb (length (concat_map values_of (map (λ q. spot_at (f q) q) ps))) 0
         → (v : Option ℕ) → is_empty (calls_in (spot_at v p ∷ map (λ q. spot_at (f q) q) ps))
         ≡ eqb (length (concat_map values_of (spot_at v p ∷ map (λ q. spot_at (f q) q) ps))) 0
-    one rest none = rest
-    one rest (some v) = sym (ne_eqb (suc (length (concat_map values_of (map (λ q. spot_at (f q) q) ps)))) 0 (omega arith))
+    one rest None = rest
+    one rest (Some v) = sym (ne_eqb (suc (length (concat_map values_of (map (λ q. spot_at (f q) q) ps)))) 0 (omega arith))
 
 pub has_calls_lem : (mode : MethylationMode) (p : ConversionPattern) (ev : Evidence) (seq : List ℕ)
     → has_calls (strand_group mode p ev seq) ≡ not (eqb (length (written (strand_group mode p ev seq ∷ [])).ml) 0)

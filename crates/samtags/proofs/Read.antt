@@ -1,5 +1,6 @@
 -- The steps of a reading that succeeds, as views that later laws use. What is read fits SEQ and uses all of ML. Last, exactly when a drop is refused.
 -- Assumes nothing.
+use Rattle.std.specs.Prelude.{Ok}
 use mathlib.Core.Path.{◌≡◌, refl, sym, ap, ◌∙◌, subst}
 use Prim.Native.Nat.{ℕ}
 use native.Mathlib.Omega.{arith}
@@ -14,7 +15,7 @@ use Rattle.lent.proofs.Tests.{and_true, and_true_l, and_true_r}
 use Rattle.samtags.specs.Bytes.{comma, semicolon, is_ascii}
 use Rattle.samtags.specs.Decimal.{is_number, value}
 use Rattle.samtags.specs.Text.{up_to, led_by, closed_by, base_of}
-use Rattle.lent.specs.Outcome.{done, need}
+use Rattle.lent.specs.Outcome.{need}
 use Rattle.samtags.specs.Spots.{Spot, bare, call, place_of, values_of, Group, calls_in, tracked}
 use Rattle.samtags.specs.Reading.{read_entry, read_spots, values_if, denied_to, read_group, read_groups, read}
 use Rattle.samtags.specs.Writing.{ml_of}
@@ -46,7 +47,7 @@ pub record TagRead (ml? : Bool) (seq text ml : List ℕ) (gs : List Group) : Typ
 
 -- ---- a reading that succeeds has its view
 
-entry_read : (k : ℕ) (denied : ℕ → Bool) (f places : List ℕ) (n : ℕ) (q : ℕ × List ℕ) → read_entry k denied f places n ≡ done q
+entry_read : (k : ℕ) (denied : ℕ → Bool) (f places : List ℕ) (n : ℕ) (q : ℕ × List ℕ) → read_entry k denied f places n ≡ Ok q
     → (is_number f ≡ true) × (drop (value f) places ≡ q.0 ∷ q.1) × (leb k n ≡ true)
 unfolding read_entry
 entry_read k denied f places n q e =
@@ -59,7 +60,7 @@ entry_read k denied f places n q e =
     )
 
 pub spots_read : (k : ℕ) (denied : ℕ → Bool) (fs : List (List ℕ)) (places ml : List ℕ) (r : List Spot × List ℕ)
-    → read_spots k denied fs places ml ≡ done r → SpotsRead k fs places ml r.0 r.1
+    → read_spots k denied fs places ml ≡ Ok r → SpotsRead k fs places ml r.0 r.1
 unfolding read_spots
 spots_read k denied [] places ml r e = subst (λ (q : List Spot × List ℕ). SpotsRead k [] places ml q.0 q.1) (done_inj e) no_entry
 spots_read k denied (f ∷ fs) places ml r e =
@@ -70,7 +71,7 @@ spots_read k denied (f ∷ fs) places ml r e =
     (an_entry w.0 w.1 w.2 (spots_read k denied fs one.0.1 (drop k ml) next.0 next.1))
 
 groups_read : (ml? : Bool) (named : ℕ → Bool) (seq : List ℕ) (ps : List (List ℕ)) (ml : List ℕ) (gs : List Group)
-    → read_groups ml? named seq ps ml ≡ done gs → GroupsRead ml? seq ps ml gs
+    → read_groups ml? named seq ps ml ≡ Ok gs → GroupsRead ml? seq ps ml gs
 unfolding read_groups read_group
 groups_read ml? named seq [] [] gs e = subst (GroupsRead ml? seq [] []) (done_inj e) no_group_lem
 groups_read ml? named seq [] (v ∷ ml) gs e = let z : ◌≡◌ {A = ℕ} 0 1 = cc in absurd (omega arith)
@@ -86,7 +87,7 @@ groups_read ml? named seq (g ∷ ps) ml gs e =
     subst (GroupsRead ml? seq (g ∷ ps) ml) (ap (λ (q : Group × List ℕ). q.0 ∷ more.0) same ∙ done_inj more.2)
     (a_group_lem long (spots_read _ _ _ _ _ spots.0 spots.1) rest)
 
-pub tag_read : (ml? : Bool) (named : ℕ → Bool) (seq text ml : List ℕ) (gs : List Group) → read ml? named seq text ml ≡ done gs → TagRead ml? seq text ml gs
+pub tag_read : (ml? : Bool) (named : ℕ → Bool) (seq text ml : List ℕ) (gs : List Group) → read ml? named seq text ml ≡ Ok gs → TagRead ml? seq text ml gs
 unfolding read
 tag_read ml? named seq text ml gs e =
     let e₁ = need_rest (every is_ascii text) 3 _ gs e in
@@ -182,7 +183,7 @@ unfoldable pub may_drop : (ℕ → Bool) → Group → Bool
 may_drop named g = every (allowed (denied_to g.header named)) g.spots
 
 spots_denied : {k : ℕ} {fs : List (List ℕ)} {places ml : List ℕ} {ss : List Spot} {left : List ℕ} (denied : ℕ → Bool) → SpotsRead k fs places ml ss left
-    → read_spots k denied fs places ml ≡ need (every (allowed denied) ss) 10 (done (ss, left))
+    → read_spots k denied fs places ml ≡ need (every (allowed denied) ss) 10 (Ok (ss, left))
 unfolding read_spots
 spots_denied {k} denied (no_entry {places = places}) = rw (← append-nil (map bare places), every_bare (allowed denied) (λ p. refl) places [])
 spots_denied {k} denied (an_entry {f = f} {places = places} {ml = ml} {p = p} {rest = rest} {ss = ss} {left = left} num e l r) =
@@ -190,7 +191,7 @@ spots_denied {k} denied (an_entry {f = f} {places = places} {ml = ml} {p = p} {r
     (need_both (not (denied p)) (every (allowed denied) ss) 10 (ss, left) _)
 
 groups_denied : {ml? : Bool} {seq : List ℕ} {ps : List (List ℕ)} {ml : List ℕ} {gs : List Group} (named : ℕ → Bool) → GroupsRead ml? seq ps ml gs
-    → read_groups ml? named seq ps ml ≡ need (every (may_drop named) gs) 10 (done gs)
+    → read_groups ml? named seq ps ml ≡ need (every (may_drop named) gs) 10 (Ok gs)
 unfolding read_groups read_group may_drop
 groups_denied named no_group_lem = refl
 groups_denied {ml?} {seq} named (a_group_lem {g = g} {gs = ps} {ml = ml} {left = left} {ss = ss} {rest = rest} long r rs) =
@@ -200,6 +201,6 @@ groups_denied {ml?} {seq} named (a_group_lem {g = g} {gs = ps} {ml = ml} {left =
 
 -- For a tag that can be read, the drop of some places is refused with 10 exactly when a group whose header doesn't end in '?' lists a call there.
 pub tag_denied : {ml? : Bool} {seq text ml : List ℕ} {gs : List Group} (named : ℕ → Bool) → TagRead ml? seq text ml gs
-    → read ml? named seq text ml ≡ need (every (may_drop named) gs) 10 (done gs)
+    → read ml? named seq text ml ≡ need (every (may_drop named) gs) 10 (Ok gs)
 unfolding read
 tag_denied named t = rw (t.low, t.ends) (groups_denied named t.groups)

@@ -1,5 +1,6 @@
 -- What the reader accepts means what SAMtags says: the text is spelled by pieces, and the listings are the calls that SAMtags gives for these pieces.
 -- Assumes nothing.
+use Rattle.std.specs.Prelude.{Ok}
 use mathlib.Core.Path.{◌≡◌, refl, sym, ap, ◌∙◌, subst}
 use Prim.Native.Nat.{ℕ, zero, suc, ◌+◌, ◌*◌, ◌≤◌, ◌<◌}
 use native.Mathlib.Omega.{arith}
@@ -16,7 +17,6 @@ use Rattle.lent.proofs.Lists.{drop_step, get_d_step, drop_more}
 use Rattle.samtags.specs.Bytes.{comma, semicolon}
 use Rattle.samtags.specs.Decimal.{is_number, value}
 use Rattle.samtags.specs.Text.{up_to, led_by, closed_by, push, base_of}
-use Rattle.lent.specs.Outcome.{done}
 use Rattle.samtags.specs.Spots.{Spot, bare, call, Group, Call, Listing, calls_in, listing, tracked}
 use Rattle.samtags.specs.Reading.{nowhere, values_if, read, lists}
 use Rattle.samtags.specs.Samtags.{letter_u, Names, ordinal, no_call, Entries, GroupMeans, TagMeans, no_group, a_group, Piece, led_by_commas, spelled, entries_of}
@@ -191,7 +191,7 @@ groups_numbers {ml?} {seq} (a_group_lem {g = g} long r rs) =
     and_true _ _ (entries_mean r 0 (tracked (base_of (up_to comma g)) seq) refl).numbers (groups_numbers rs)
 
 -- the calls of a tag that is read, over the pieces of its text
-pub tag_means : (ml? : Bool) (seq text ml : List ℕ) (ls : List Listing) → lists ml? seq text ml ≡ done ls → upper_case seq ≡ true → no_u ls ≡ true
+pub tag_means : (ml? : Bool) (seq text ml : List ℕ) (ls : List Listing) → lists ml? seq text ml ≡ Ok ls → upper_case seq ≡ true → no_u ls ≡ true
     → TagMeans seq (cond ml? ml []) (map (read_entries ml?) (closed_by semicolon text)) (calls_of ls)
 unfolding lists
 tag_means ml? seq text ml ls e u n =
@@ -201,7 +201,7 @@ tag_means ml? seq text ml ls e u n =
     (groups_mean (tag_read ml? nowhere seq text ml i.0 i.1).groups u (rw same n))
 
 -- the headers of a tag that is read are those of the pieces of its text
-pub listed_headers : (ml? : Bool) (seq text ml : List ℕ) (ls : List Listing) → lists ml? seq text ml ≡ done ls
+pub listed_headers : (ml? : Bool) (seq text ml : List ℕ) (ls : List Listing) → lists ml? seq text ml ≡ Ok ls
     → map (λ (l : Listing). l.header) ls ≡ map (λ (p : Piece). p.header) (map piece_in (closed_by semicolon text))
 unfolding lists
 listed_headers ml? seq text ml ls e =
@@ -218,7 +218,7 @@ pub record Read-means (ml? : Bool) (seq text ml : List ℕ) (ls : List Listing) 
   pub means : TagMeans seq (cond ml? ml []) (map (entries_of base_of (values_if ml?)) pieces) (calls_of ls)
 
 -- A tag that the reader accepts, on an upper-case SEQ and with no group on U, lists exactly the calls that SAMtags gives.
-pub reading_means : (ml? : Bool) (seq text ml : List ℕ) (ls : List Listing) → lists ml? seq text ml ≡ done ls
+pub reading_means : (ml? : Bool) (seq text ml : List ℕ) (ls : List Listing) → lists ml? seq text ml ≡ Ok ls
     → upper_case seq ≡ true → no_u ls ≡ true → Read-means ml? seq text ml ls
 unfolding lists
 reading_means ml? seq text ml ls e u n =

@@ -1,5 +1,6 @@
 -- Reading what was written gives back the groups.
 -- Assumes nothing.
+use Rattle.std.specs.Prelude.{Ok}
 use mathlib.Core.Path.{◌≡◌, refl, sym, ◌∙◌}
 use Prim.Native.Nat.{ℕ, suc}
 use native.Mathlib.Omega.{arith}
@@ -15,7 +16,6 @@ use Rattle.lent.proofs.Lists.{every_append, drop_step, take_step, take_whole, la
 use Rattle.samtags.specs.Bytes.{comma, semicolon, is_ascii}
 use Rattle.samtags.specs.Decimal.{digits}
 use Rattle.samtags.specs.Text.{closed_by, base_of}
-use Rattle.lent.specs.Outcome.{done}
 use Rattle.samtags.specs.Spots.{Spot, bare, call, place_of, values_of, Group, tracked}
 use Rattle.samtags.specs.Reading.{nowhere, read_spots, values_if, read_group, read_groups, read}
 use Rattle.samtags.specs.Writing.{skips_from, entries_text, text_of, ml_of}
@@ -29,7 +29,7 @@ sized k (call p vs) = eqb (length vs) k
 
 -- The spots that the written numbers give back, where n places were passed already: those n places bare, and the spots.
 read_spots_lem : (k n : ℕ) (ss : List Spot) (places ml : List ℕ) → drop n places ≡ map place_of ss → every (sized k) ss ≡ true
-    → read_spots k nowhere (map digits (skips_from n ss)) places (concat_map values_of ss ++ ml) ≡ done (map bare (take n places) ++ ss, ml)
+    → read_spots k nowhere (map digits (skips_from n ss)) places (concat_map values_of ss ++ ml) ≡ Ok (map bare (take n places) ++ ss, ml)
 unfolding read_spots
 read_spots_lem k n [] places ml e s = rw (take_whole n places e, append-nil (map bare places))
 read_spots_lem k n (bare p ∷ ss) places ml e s =
@@ -55,7 +55,7 @@ AllFit ml? seq (g ∷ gs) = Fits ml? seq g × AllFit ml? seq gs
 
 -- one group, whatever of ML is left behind its own values
 read_group_lem : (ml? : Bool) (seq : List ℕ) (g : Group) (ml : List ℕ) → Fits ml? seq g
-    → read_group ml? nowhere seq (g.header ++ entries_text (skips_from 0 g.spots)) (concat_map values_of g.spots ++ ml) ≡ done (g, ml)
+    → read_group ml? nowhere seq (g.header ++ entries_text (skips_from 0 g.spots)) (concat_map values_of g.spots ++ ml) ≡ Ok (g, ml)
 unfolding read_group
 read_group_lem ml? seq g ml f =
     let h : List ℕ = g.header in
@@ -69,7 +69,7 @@ read_group_lem ml? seq g ml f =
     )
 
 read_groups_lem : (ml? : Bool) (seq : List ℕ) (gs : List Group) → AllFit ml? seq gs
-    → read_groups ml? nowhere seq (closed_by semicolon (text_of gs)) (ml_of gs) ≡ done gs
+    → read_groups ml? nowhere seq (closed_by semicolon (text_of gs)) (ml_of gs) ≡ Ok gs
 unfolding read_groups text_of ml_of
 read_groups_lem ml? seq [] f = refl
 read_groups_lem ml? seq (g ∷ gs) f =
@@ -116,7 +116,7 @@ no_ml seq (g ∷ gs) f = rw (no_values g.spots f.0.sizes) (no_ml seq gs f.1)
 
 -- what was written is read back
 pub read_written : (ml? : Bool) (seq : List ℕ) (g : Group) (gs : List Group) (lent : List ℕ) → AllFit ml? seq (g ∷ gs)
-    → read ml? nowhere seq (text_of (g ∷ gs)) (cond ml? (ml_of (g ∷ gs)) lent) ≡ done (g ∷ gs)
+    → read ml? nowhere seq (text_of (g ∷ gs)) (cond ml? (ml_of (g ∷ gs)) lent) ≡ Ok (g ∷ gs)
 unfolding read
 read_written true seq g gs lent f =
     rw (text_low true seq (g ∷ gs) f, text_last 0 g gs, text_ends gs) (read_groups_lem true seq (g ∷ gs) f)

@@ -1,5 +1,6 @@
 -- An edit is only used at the tracked places of SEQ: two edits that agree there edit every tag alike.
 -- Assumes nothing.
+use Rattle.std.specs.Prelude.{Ok, Err}
 use mathlib.Core.Path.{◌≡◌, refl, ap, ◌∙◌}
 use Prim.Native.Nat.{ℕ, zero, suc}
 use mathlib.Core.Bool.{Bool, cond, not, ◌&&◌}
@@ -9,7 +10,7 @@ use lib.Dec.{leb}
 use Rattle.lent.proofs.Lists.{Agree, agree_imp}
 use Rattle.lent.proofs.Tests.{by-test}
 use Rattle.lent.specs.Lists.{filter}
-use Rattle.lent.specs.Outcome.{Outcome, refused, done, and_then, need, with_first}
+use Rattle.lent.specs.Outcome.{Outcome, and_then, need, with_first}
 use Rattle.samtags.specs.Bytes.{comma, semicolon}
 use Rattle.samtags.specs.Decimal.{is_number, value}
 use Rattle.samtags.specs.Edits.{Edit, unlist, changed, edited}
@@ -40,9 +41,9 @@ spots_same k s t (f ∷ fs) places ml a =
     -- what is read from the place on that an entry may list
     from_entry : (ℕ → Bool) → List ℕ → Outcome (List Spot × List ℕ)
     from_entry d l =
-        and_then {A = ℕ × List ℕ} (with_first l 7 (λ p rest. need (leb k (length ml)) 8 (need (not (d p)) 10 (done (p, rest))))) (λ e.
+        and_then {A = ℕ × List ℕ} (with_first l 7 (λ p rest. need (leb k (length ml)) 8 (need (not (d p)) 10 (Ok (p, rest))))) (λ e.
         and_then (read_spots k d fs e.1 (drop k ml)) (λ r.
-        done (map bare (take (value f) places) ++ call e.0 (take k ml) ∷ r.0, r.1)))
+        Ok (map bare (take (value f) places) ++ call e.0 (take k ml) ∷ r.0, r.1)))
 
     go : ((rest : List ℕ) → Agree s t rest → read_spots k s fs rest (drop k ml) ≡ read_spots k t fs rest (drop k ml))
         → (l : List ℕ) → Agree s t l → from_entry s l ≡ from_entry t l
@@ -68,10 +69,10 @@ module _ (ml? : Bool) (s t : ℕ → Bool) (seq : List ℕ) (same : (b : ℕ) �
   groups_same (g ∷ gs) ml = rw (group_same g ml) (go (groups_same gs) (read_group ml? t seq g ml))
     where
       go : ((left : List ℕ) → read_groups ml? s seq gs left ≡ read_groups ml? t seq gs left) → (o : Outcome (Group × List ℕ))
-          → and_then o (λ r. and_then (read_groups ml? s seq gs r.1) (λ rest. done (r.0 ∷ rest)))
-          ≡ and_then o (λ r. and_then (read_groups ml? t seq gs r.1) (λ rest. done (r.0 ∷ rest)))
-      go more (refused r) = refl
-      go more (done r) = rw (more r.1)
+          → and_then o (λ r. and_then (read_groups ml? s seq gs r.1) (λ rest. Ok (r.0 ∷ rest)))
+          ≡ and_then o (λ r. and_then (read_groups ml? t seq gs r.1) (λ rest. Ok (r.0 ∷ rest)))
+      go more (Err r) = refl
+      go more (Ok r) = rw (more r.1)
 
   read_same : (text ml : List ℕ) → read ml? s seq text ml ≡ read ml? t seq text ml
   unfolding read
@@ -103,8 +104,8 @@ module _ (e d : Edit) (ml? : Bool) (seq : List ℕ) (held : (b : ℕ) → Agree 
   edited_same text ml = rw (read_same ml? e.dropped d.dropped seq dropped text ml) (go (read ml? d.dropped seq text ml) refl)
     where
       go : (o : Outcome (List Group)) → read ml? d.dropped seq text ml ≡ o
-          → and_then o (λ gs. done (written (map (changed e) gs))) ≡ and_then o (λ gs. done (written (map (changed d) gs)))
-      go (refused r) q = refl
-      go (done gs) q =
-          ap (λ (hs : List Group). done (written hs))
+          → and_then o (λ gs. Ok (written (map (changed e) gs))) ≡ and_then o (λ gs. Ok (written (map (changed d) gs)))
+      go (Err r) q = refl
+      go (Ok gs) q =
+          ap (λ (hs : List Group). Ok (written hs))
           (all_same ml? seq (changed e) (changed d) changed_same gs (tag_fits (tag_read ml? d.dropped seq text ml gs q)))

@@ -1,5 +1,6 @@
 -- Demand 3: the result of a session, for any list of steps.
 -- Assumes nothing.
+use Rattle.std.specs.Prelude.{Ok}
 use mathlib.Core.Path.{◌≡◌, refl, sym, ap, ◌∙◌, subst}
 use Prim.Native.Nat.{ℕ, zero, suc, ◌+◌, ◌-◌, ◌≤◌, ◌<◌}
 use native.Mathlib.Omega.{arith}
@@ -14,7 +15,7 @@ use Rattle.lent.proofs.Tests.{by-test}
 use Rattle.lent.proofs.Lists.{filter_ext, filter_all, map_ext, drop_take}
 use Rattle.samtags.specs.Bytes.{letter_n}
 use Rattle.samtags.specs.Text.{base_of}
-use Rattle.lent.specs.Outcome.{Outcome, done, number_of}
+use Rattle.lent.specs.Outcome.{Outcome, number_of}
 use Rattle.samtags.specs.Spots.{Spot, bare, call, place_of, Group, Listing, listing}
 use Rattle.samtags.specs.Reading.{nowhere, read, lists}
 use Rattle.samtags.specs.Session.{Step, mask, drop_calls, cut, Held, mask_from, masked, window, stepped, after_step, run, answers}
@@ -87,7 +88,7 @@ seq_length σ seq h =
 -- what a session holds is what the steps so far leave of the opening SEQ and of the opening groups
 record Comes-to (ml? : Bool) (seq : List ℕ) (gs : List Group) (σ : Sofar) (s : Held) : Type 0 where
   seq_left : s.seq ≡ left_of_seq σ seq
-  tag_left : read ml? nowhere s.seq s.text s.ml ≡ done (map (left_of_group σ) gs)
+  tag_left : read ml? nowhere s.seq s.text s.ml ≡ Ok (map (left_of_group σ) gs)
   in_seq : σ.front + σ.size ≤ length seq
 
 module _ (ml? : Bool) (seq : List ℕ) (gs : List Group) where
@@ -118,7 +119,7 @@ module _ (ml? : Bool) (seq : List ℕ) (gs : List Group) where
             seq_left = ap (masked (among ps)) c.seq_left ∙ seq_mask σ ps seq;
             tag_left =
                 mask_reads ml? s.seq s.text s.ml old c.tag_left (among ps) s.ml
-                ∙ ap done (made σ (taken (mask ps) σ) (mask_group (among ps)) (left_mask σ ps));
+                ∙ ap Ok (made σ (taken (mask ps) σ) (mask_group (among ps)) (left_mask σ ps));
             in_seq = c.in_seq;
           };
           answered = refl;
@@ -135,7 +136,7 @@ module _ (ml? : Bool) (seq : List ℕ) (gs : List Group) where
             seq_left = c.seq_left;
             tag_left =
                 drop_reads ml? s.seq s.text s.ml old c.tag_left (among ps) s.ml
-                ∙ ap done (made σ (taken (drop_calls ps) σ) (drop_group (among ps)) (left_drop σ ps));
+                ∙ ap Ok (made σ (taken (drop_calls ps) σ) (drop_group (among ps)) (left_drop σ ps));
             in_seq = c.in_seq;
           });
           answered = rw e;
@@ -166,7 +167,7 @@ module _ (ml? : Bool) (seq : List ℕ) (gs : List Group) where
             seq_left = ap (window f (σ.size - (f + b))) c.seq_left ∙ seq_cut σ f b seq l;
             tag_left =
                 cut_reads ml? s.seq s.text s.ml old c.tag_left f (σ.size - (f + b)) s.ml
-                ∙ ap done (made σ (taken (cut f b) σ) (cut_group f (σ.size - (f + b))) (λ g. left_cut σ f b g l));
+                ∙ ap Ok (made σ (taken (cut f b) σ) (cut_group f (σ.size - (f + b))) (λ g. left_cut σ f b g l));
             in_seq = omega (arith, c.in_seq);
           });
           answered = rw (e, z);
@@ -210,13 +211,13 @@ left_opening ml? seq g f =
     same : (b p : ℕ) → base_stays (opening seq) b p ≡ inside 0 (length seq) p
     same b p = rw (or-true (eqb b letter_n), and_true_right (inside 0 (length seq) p))
 
-comes_opening : (ml? : Bool) (seq text ml : List ℕ) (gs : List Group) → read ml? nowhere seq text ml ≡ done gs
+comes_opening : (ml? : Bool) (seq text ml : List ℕ) (gs : List Group) → read ml? nowhere seq text ml ≡ Ok gs
     → Comes-to ml? seq gs (opening seq) (record { seq = seq; text = text; ml = ml })
 unfolding left_of_seq
 comes_opening ml? seq text ml gs e = record {
   seq_left = sym (ap (take (length seq)) (mask_none 0 seq) ∙ take-length seq);
   tag_left =
-      e ∙ ap done (sym (all_same ml? seq (left_of_group (opening seq)) (λ g. g) (left_opening ml? seq) gs (tag_fits (tag_read ml? nowhere seq text ml gs e)) ∙ map_same gs));
+      e ∙ ap Ok (sym (all_same ml? seq (left_of_group (opening seq)) (λ g. g) (left_opening ml? seq) gs (tag_fits (tag_read ml? nowhere seq text ml gs e)) ∙ map_same gs));
   in_seq = omega arith;
 }
   where
@@ -230,11 +231,11 @@ comes_opening ml? seq text ml gs e = record {
 pub record Session-means (ml? : Bool) (opened : Held) (ls : List Listing) (ts : List Step) : Type 0 where
   pub seq_then : (run ml? ts opened).seq ≡ left_of_seq (after_steps ls ts (opening opened.seq)) opened.seq
   pub lists_then : lists ml? (run ml? ts opened).seq (run ml? ts opened).text (run ml? ts opened).ml
-      ≡ done (map (left_of_listing (after_steps ls ts (opening opened.seq))) ls)
+      ≡ Ok (map (left_of_listing (after_steps ls ts (opening opened.seq))) ls)
   pub answers_then : answers ml? ts opened ≡ answers_to ls ts (opening opened.seq)
 
 -- A session that is opened on a SEQ and a tag that lists ls, with or without ML, results in what it means, whatever its steps.
-pub session_meaning : (ml? : Bool) (opened : Held) (ls : List Listing) → lists ml? opened.seq opened.text opened.ml ≡ done ls
+pub session_meaning : (ml? : Bool) (opened : Held) (ls : List Listing) → lists ml? opened.seq opened.text opened.ml ≡ Ok ls
     → (ts : List Step) → Session-means ml? opened ls ts
 unfolding lists opened
 session_meaning ml? h ls₀ e ts =
@@ -244,7 +245,7 @@ session_meaning ml? h ls₀ e ts =
     subst (λ (l : List Listing). Session-means ml? h l ts)
     (done_inj i.2) (record {
       seq_then = r.0.seq_left;
-      lists_then = rw r.0.tag_left (ap done (all_left (after_steps (map listing gs) ts (opening h.seq)) gs));
+      lists_then = rw r.0.tag_left (ap Ok (all_left (after_steps (map listing gs) ts (opening h.seq)) gs));
       answers_then = r.1;
     })
 

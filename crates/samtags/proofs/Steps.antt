@@ -1,5 +1,6 @@
 -- What each edit does to a tag that fits its SEQ. The edited tag fits the edited SEQ.
 -- Assumes nothing.
+use Rattle.std.specs.Prelude.{Ok}
 use mathlib.Core.Path.{◌≡◌, refl, sym, ap, ◌∙◌}
 use Prim.Native.Nat.{ℕ, ◌+◌, ◌-◌, ◌≤◌}
 use native.Mathlib.Omega.{arith}
@@ -11,7 +12,7 @@ use Rattle.lent.specs.Lists.{every, filter, among, is_empty}
 use Rattle.lent.proofs.Tests.{by-test, and_true, and_true_l, and_true_r}
 use Rattle.lent.proofs.Lists.{Agree, filter_agree, filter_map, filter_all, every_filter}
 use Rattle.samtags.specs.Text.{base_of}
-use Rattle.lent.specs.Outcome.{done, need}
+use Rattle.lent.specs.Outcome.{need}
 use Rattle.samtags.specs.Spots.{Spot, bare, call, place_of, values_of, Group, holds, tracked}
 use Rattle.samtags.specs.Reading.{nowhere, values_if, read}
 use Rattle.samtags.specs.Writing.{written}
@@ -180,48 +181,48 @@ map_some F (g ∷ gs) e = refl
 
 -- one or more groups that fit are read back; without ML the row lent for it does not matter
 pub read_back : (ml? : Bool) (seq : List ℕ) (gs : List Group) (lent : List ℕ) → AllFit ml? seq gs → is_empty gs ≡ false
-    → read ml? nowhere seq (written gs).text (cond ml? (written gs).ml lent) ≡ done gs
+    → read ml? nowhere seq (written gs).text (cond ml? (written gs).ml lent) ≡ Ok gs
 unfolding written
 read_back ml? seq [] lent f e = let z : ◌≡◌ {A = ℕ} 0 1 = cc in absurd (omega arith)
 read_back ml? seq (g ∷ gs) lent f e = read_written ml? seq g gs lent f
 
 -- ---- the edits of a tag that is read: each answers so, and the tag is then read so
 
-module _ (ml? : Bool) (seq text ml : List ℕ) (gs : List Group) (reads : read ml? nowhere seq text ml ≡ done gs) where
+module _ (ml? : Bool) (seq text ml : List ℕ) (gs : List Group) (reads : read ml? nowhere seq text ml ≡ Ok gs) where
   tag : TagRead ml? seq text ml gs
   tag = tag_read ml? nowhere seq text ml gs reads
 
   -- groups that F makes and that fit the SEQ that is then
   then_read : (after : List ℕ) (F : Group → Group) → ((g : Group) → Fits ml? seq g → Fits ml? after (F g)) → (lent : List ℕ)
-      → read ml? nowhere after (written (map F gs)).text (cond ml? (written (map F gs)).ml lent) ≡ done (map F gs)
+      → read ml? nowhere after (written (map F gs)).text (cond ml? (written (map F gs)).ml lent) ≡ Ok (map F gs)
   then_read after F h lent = read_back ml? after (map F gs) lent (all_fit ml? seq after F h gs (tag_fits tag)) (map_some F gs (tag_some tag))
 
-  pub mask_answers : (t : ℕ → Bool) → edited (masked_to (masked t seq)) ml? seq text ml ≡ done (written (map (mask_group t) gs))
+  pub mask_answers : (t : ℕ → Bool) → edited (masked_to (masked t seq)) ml? seq text ml ≡ Ok (written (map (mask_group t) gs))
   unfolding edited masked_to
   mask_answers t = rw (reads, all_same ml? seq _ (mask_group t) (λ g f. mask_changed t ml? seq g f) gs (tag_fits tag))
 
   pub mask_reads : (t : ℕ → Bool) (lent : List ℕ)
       → read ml? nowhere (masked t seq) (written (map (mask_group t) gs)).text (cond ml? (written (map (mask_group t) gs)).ml lent)
-      ≡ done (map (mask_group t) gs)
+      ≡ Ok (map (mask_group t) gs)
   mask_reads t = then_read (masked t seq) (mask_group t) (mask_fits t ml? seq)
 
   pub drop_answers : (ps : List ℕ)
-      → edited (dropping_at ps) ml? seq text ml ≡ need (every (may_drop (among ps)) gs) 10 (done (written (map (drop_group (among ps)) gs)))
+      → edited (dropping_at ps) ml? seq text ml ≡ need (every (may_drop (among ps)) gs) 10 (Ok (written (map (drop_group (among ps)) gs)))
   unfolding edited dropping_at
   drop_answers ps = rw (tag_denied (among ps) tag, need_out, all_same ml? seq _ (drop_group (among ps)) (λ g f. drop_changed ps g) gs (tag_fits tag))
 
   pub drop_reads : (named : ℕ → Bool) (lent : List ℕ)
       → read ml? nowhere seq (written (map (drop_group named) gs)).text (cond ml? (written (map (drop_group named) gs)).ml lent)
-      ≡ done (map (drop_group named) gs)
+      ≡ Ok (map (drop_group named) gs)
   drop_reads named = then_read seq (drop_group named) (drop_fits named ml? seq)
 
   pub cut_answers : (a n : ℕ) → a + n ≤ length seq
-      → edited (cut_to a (window a n seq)) ml? seq text ml ≡ done (written (map (cut_group a n) gs))
+      → edited (cut_to a (window a n seq)) ml? seq text ml ≡ Ok (written (map (cut_group a n) gs))
   unfolding edited cut_to
   cut_answers a n h =
       rw (reads, all_same ml? seq _ (keep_group a n) (λ g f. cut_changed a n ml? seq g h f) gs (tag_fits tag), ← map-map (on_spots (moved a)) (keep_group a n) gs, written_moved a (map (keep_group a n) gs))
 
   pub cut_reads : (a n : ℕ) (lent : List ℕ)
       → read ml? nowhere (window a n seq) (written (map (cut_group a n) gs)).text (cond ml? (written (map (cut_group a n) gs)).ml lent)
-      ≡ done (map (cut_group a n) gs)
+      ≡ Ok (map (cut_group a n) gs)
   cut_reads a n = then_read (window a n seq) (cut_group a n) (cut_fits a n ml? seq)

@@ -1,5 +1,6 @@
 -- The numbers that reading and the steps answer with are those of the scope's table: none is above 21.
 -- Assumes nothing.
+use Rattle.std.specs.Prelude.{Ok, Err}
 use mathlib.Core.Path.{◌≡◌, refl}
 use Prim.Native.Nat.{ℕ, ◌≤◌}
 use native.Mathlib.Omega.{arith}
@@ -9,7 +10,7 @@ use lib.Dec.{leb}
 use borrow.Author.Tests.{leb-true}
 use Rattle.lent.specs.Answers.{refuses_only}
 use Rattle.lent.specs.Lists.{every}
-use Rattle.lent.specs.Outcome.{Outcome, refused, done, number_of}
+use Rattle.lent.specs.Outcome.{Outcome, number, number_of}
 use Rattle.samtags.specs.Reading.{read_tag}
 use Rattle.samtags.specs.Session.{Held, Step, mask, drop_calls, cut, stepped}
 use Rattle.samtags.proofs.Numbers.{read_tag_only, reader_numbers, step_numbers, stepped_only}
@@ -21,8 +22,8 @@ module _ {A : Type 0} where
   InTable o = number_of o ≤ 21
 
   in_table : (ns : List ℕ) (o : Outcome A) → every (λ n. leb n 21) ns ≡ true → refuses_only ns o ≡ true → InTable o
-  in_table ns (refused r) h k = leb-true r.0 21 (among_every (λ n. leb n 21) ns r.0 h k)
-  in_table ns (done a) h k = omega arith
+  in_table ns (Err r) h k = leb-true (number r) 21 (among_every (λ n. leb n 21) ns (number r) h k)
+  in_table ns (Ok a) h k = omega arith
 
 pub read_tag_in_table : (ml? : Bool) (seq text ml : List ℕ) → InTable (read_tag ml? seq text ml)
 read_tag_in_table ml? seq text ml =

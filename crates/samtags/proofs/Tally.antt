@@ -1,5 +1,6 @@
 -- The tally: above and below add up to ML's length. For a tag that was read, the tally is a fold over the calls.
 -- Assumes nothing.
+use Rattle.std.specs.Prelude.{Ok}
 use mathlib.Core.Path.{◌≡◌, refl, sym, ap, ◌∙◌}
 use Prim.Native.Nat.{ℕ, ◌+◌}
 use native.Mathlib.Omega.{arith}
@@ -10,7 +11,6 @@ use borrow.Author.Tests.{leb-false, lt-leb, ltb-true, lt-ltb, not-true}
 use Rattle.lent.specs.Lists.{filter, concat_map}
 use Rattle.lent.proofs.Tests.{by-test, test_ext}
 use Rattle.lent.proofs.Lists.{filter_append, concat_map_append}
-use Rattle.lent.specs.Outcome.{done}
 use Rattle.samtags.specs.Spots.{Spot, bare, call, values_of, Group, Call, Listing, calls_in, listing}
 use Rattle.samtags.specs.Reading.{nowhere, read, lists, Tally, is_above, is_below, tally_of}
 use Rattle.samtags.specs.Writing.{ml_of}
@@ -72,7 +72,7 @@ tally_calls_lem [] = refl
 tally_calls_lem (c ∷ cs) = tally_append c.values (concat_map call_values cs) ∙ ap (tally_sum (tally_of c.values)) (tally_calls_lem cs)
 
 -- for a tag that is read, ML's tally is the fold over the calls
-pub tally_is_a_fold : (seq text ml : List ℕ) (ls : List Listing) → lists true seq text ml ≡ done ls → tally_of ml ≡ tally_calls (all_calls ls)
+pub tally_is_a_fold : (seq text ml : List ℕ) (ls : List Listing) → lists true seq text ml ≡ Ok ls → tally_of ml ≡ tally_calls (all_calls ls)
 unfolding lists
 tally_is_a_fold seq text ml ls e =
     let i = and_then_inv (read true nowhere seq text ml) _ ls e in

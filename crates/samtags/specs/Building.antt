@@ -1,7 +1,6 @@
 -- Building a tag from SEQ, evidence and chemistry: which bases are listed, with which skips and values. Also the joined tag of two strands.
 -- Assumes nothing.
-use Rattle.std.specs.Prelude.{ℕ, suc, ◌+◌, ◌*◌, ◌/◌, min, Bool, true, false, cond, not, ◌&&◌, List, [], ◌∷◌, ◌++◌, map, length, get_or, leb, eqb}
-use Rattle.std.proofs.Math.Option.{Option, none, some}
+use Rattle.std.specs.Prelude.{ℕ, suc, ◌+◌, ◌*◌, ◌/◌, min, Bool, true, false, cond, not, ◌&&◌, List, [], ◌∷◌, ◌++◌, map, length, get_or, leb, eqb, Ok, Option, None, Some}
 use Rattle.lent.specs.Lists.{filter, is_empty}
 use Rattle.pattern.specs.Case.{same_in_any_case}
 use Rattle.pattern.specs.Patterns.{letter_of, sign_of, is_enabled}
@@ -10,7 +9,7 @@ use Rattle.pattern.specs.declared.ConversionPattern.TheVariants.{CToT, GToA}
 use Rattle.pattern.specs.declared.MethylationMode.{MethylationMode}
 use Rattle.pattern.specs.declared.MethylationMode.TheVariants.{Disabled, EmSeq, Taps}
 use Rattle.samtags.specs.Bytes.{ascii}
-use Rattle.lent.specs.Outcome.{Outcome, done, need}
+use Rattle.lent.specs.Outcome.{Outcome, need}
 use Rattle.samtags.specs.Spots.{Spot, bare, call, Group, Call, calls_in, places_from}
 use Rattle.samtags.specs.Writing.{Tag, written}
 use Rattle.samtags.specs.Edits.{in_room}
@@ -38,7 +37,7 @@ ml_value speaking total = min 255 (256 * speaking / total)
 -- the ML value of a call; there is a call if the place is informative and a read was counted there
 unfoldable pub called : MethylationMode → ℕ → ℕ → ℕ → Option ℕ
 unfolding ml_value
-called mode informative u c = cond (not (eqb informative 0) && not (eqb (u + c) 0)) (some (ml_value (numerator mode u c) (u + c))) none
+called mode informative u c = cond (not (eqb informative 0) && not (eqb (u + c) 0)) (Some (ml_value (numerator mode u c) (u + c))) None
 
 -- the ML value of the call at a place
 unfoldable pub called_at : MethylationMode → Evidence → ℕ → Option ℕ
@@ -47,8 +46,8 @@ called_at mode ev p = called mode (get_or ev.informative p 0) (get_or ev.unconve
 
 -- a base of the pattern's letter: a call if the evidence gives one, else bare
 abbrev pub spot_at : Option ℕ → ℕ → Spot
-spot_at none p = bare p
-spot_at (some v) p = call p (v ∷ [])
+spot_at None p = bare p
+spot_at (Some v) p = call p (v ∷ [])
 
 -- `C+m?` and `G-m?`: an unlisted base is of unknown status
 abbrev pub header_of : ConversionPattern → List ℕ
@@ -87,7 +86,7 @@ built_tag mode p ev seq =
     need (evidence_in_domain ev seq) 1
     (need (evidence_agrees ev seq) 2
     (need (is_enabled mode && has_calls g) 20
-    (done (written (g ∷ [])))))
+    (Ok (written (g ∷ [])))))
 
 -- the tag in the room lent for it: last 12. Without ML the room for ML is ignored.
 unfoldable pub build_tag : Bool → MethylationMode → ConversionPattern → Evidence → List ℕ → ℕ → ℕ → Outcome Tag
@@ -132,8 +131,8 @@ own_tag mode p ev seq = joined_tag mode (record { pattern = p; evidence = ev } �
 
 abbrev pub call_at : Bool → Option ℕ → ℕ → List Call → List Call
 call_at false v p cs = cs
-call_at true none p cs = cs
-call_at true (some v) p cs = record { place = p; values = v ∷ [] } ∷ cs
+call_at true None p cs = cs
+call_at true (Some v) p cs = record { place = p; values = v ∷ [] } ∷ cs
 
 unfoldable pub calls_from : ℕ → MethylationMode → ConversionPattern → Evidence → List ℕ → List Call
 unfolding called_at

@@ -1,11 +1,10 @@
 -- The three edits: on a group, then on a tag, then as public calls, each with its own order of refusals.
 -- Assumes nothing.
-use Rattle.std.specs.Prelude.{ℕ, ◌+◌, ◌-◌, Bool, true, false, cond, not, ◌&&◌, ◌||◌, List, [], ◌∷◌, map, length, get_or, drop, leb, ltb, eqb}
-use Rattle.std.proofs.Math.Option.{Option, none, some}
+use Rattle.std.specs.Prelude.{ℕ, ◌+◌, ◌-◌, Bool, true, false, cond, not, ◌&&◌, ◌||◌, List, [], ◌∷◌, map, length, get_or, drop, leb, ltb, eqb, Ok, Option, None, Some}
 use Rattle.lent.specs.Lists.{filter, among}
 use Rattle.samtags.specs.Bytes.{letter_n}
 use Rattle.samtags.specs.Text.{base_of}
-use Rattle.lent.specs.Outcome.{Outcome, done, refuse, need, and_then}
+use Rattle.lent.specs.Outcome.{Outcome, refuse, need, and_then}
 use Rattle.samtags.specs.Spots.{Spot, bare, call, place_of, Group, holds}
 use Rattle.samtags.specs.Reading.{nowhere, read, in_domain}
 use Rattle.samtags.specs.Writing.{Tag, written}
@@ -32,7 +31,7 @@ changed e g =
 -- a tag is read, changed and written again; a drop under a header that doesn't end in '?' is refused while reading
 unfoldable pub edited : Edit → Bool → List ℕ → List ℕ → List ℕ → Outcome Tag
 unfolding read changed written
-edited e ml? seq text ml = and_then (read ml? e.dropped seq text ml) (λ gs. done (written (map (changed e) gs)))
+edited e ml? seq text ml = and_then (read ml? e.dropped seq text ml) (λ gs. Ok (written (map (changed e) gs)))
 
 -- ---- the three kinds of edit
 
@@ -57,7 +56,7 @@ cut_to lo after = record {
 
 -- the finished tag fits the room lent for text and for ML; without ML the room for ML is ignored
 abbrev pub in_room : Bool → ℕ → ℕ → Outcome Tag → Outcome Tag
-in_room ml? t m o = and_then o (λ r. need (leb (length r.text) t && cond ml? (leb (length r.ml) m) true) 12 (done r))
+in_room ml? t m o = and_then o (λ r. need (leb (length r.text) t && cond ml? (leb (length r.ml) m) true) 12 (Ok r))
 
 -- Masking: 1, 2, then the reader's numbers, last 12. A mask that changes nothing is an edit like any other: it respells the tag.
 unfoldable pub mask_tag : Bool → List ℕ → List ℕ → List ℕ → List ℕ → ℕ → ℕ → Outcome Tag
@@ -93,12 +92,12 @@ lies_in (x ∷ xs) (y ∷ ys) = (eqb x y || is_masked x) && lies_in xs ys
 
 -- the start of the window: 0 if nothing was cut off, whatever start is given; else the given start, if it is known
 abbrev pub window_start : Option ℕ → List ℕ → List ℕ → Option ℕ
-window_start start before after = cond (eqb (length before) (length after)) (some 0) start
+window_start start before after = cond (eqb (length before) (length after)) (Some 0) start
 
 -- f of a known start, or 11 if the start is unknown
 abbrev pub with_start : Option ℕ → (ℕ → Outcome Tag) → Outcome Tag
-with_start none f = refuse 11
-with_start (some lo) f = f lo
+with_start None f = refuse 11
+with_start (Some lo) f = f lo
 
 -- Cutting: 1, 21 if nothing changed, 11 if `after` is no window of `before` or its start is unknown, then the reader's numbers, last 12.
 unfoldable pub cut_tag : Bool → Option ℕ → List ℕ → List ℕ → List ℕ → List ℕ → ℕ → ℕ → Outcome Tag

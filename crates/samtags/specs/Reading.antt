@@ -1,12 +1,12 @@
 -- Reading a tag: the groups of an MM text with its SEQ and ML, or the number of the first error from the left. `ml?` says whether there is an ML:
 -- without ML no value is taken, and 8 and 9 do not occur.
 -- Assumes nothing.
-use Rattle.std.specs.Prelude.{ℕ, suc, ◌+◌, Bool, true, false, cond, not, ◌&&◌, List, [], ◌∷◌, ◌++◌, map, length, take, drop, leb, ltb, eqb}
+use Rattle.std.specs.Prelude.{ℕ, suc, ◌+◌, Bool, true, false, cond, not, ◌&&◌, List, [], ◌∷◌, ◌++◌, map, length, take, drop, leb, ltb, eqb, Ok}
 use Rattle.lent.specs.Lists.{every, filter, is_empty, last_or}
 use Rattle.samtags.specs.Bytes.{comma, semicolon, is_ascii}
 use Rattle.samtags.specs.Decimal.{is_number, value}
 use Rattle.samtags.specs.Text.{up_to, led_by, closed_by, base_of, ends_in_question, values_per}
-use Rattle.lent.specs.Outcome.{Outcome, done, need, and_then, with_first}
+use Rattle.lent.specs.Outcome.{Outcome, need, and_then, with_first}
 use Rattle.samtags.specs.Spots.{Spot, bare, call, Group, Call, Listing, listing, tracked}
 
 -- no place
@@ -22,16 +22,16 @@ read_entry k denied field places n =
     (with_first (drop (value field) places) 7 (λ p rest.
     need (leb k n) 8
     (need (not (denied p)) 10
-    (done (p, rest)))))
+    (Ok (p, rest)))))
 
 -- Reads a group's entries, given the tracked places and the ML values that are left: its spots, and the values left after them.
 unfoldable pub read_spots : ℕ → (ℕ → Bool) → List (List ℕ) → List ℕ → List ℕ → Outcome (List Spot × List ℕ)
 unfolding read_entry
-read_spots k denied [] places ml = done (map bare places, ml)
+read_spots k denied [] places ml = Ok (map bare places, ml)
 read_spots k denied (f ∷ fs) places ml =
     and_then {A = ℕ × List ℕ} (read_entry k denied f places (length ml)) (λ e.
     and_then (read_spots k denied fs e.1 (drop k ml)) (λ r.
-    done (map bare (take (value f) places) ++ call e.0 (take k ml) ∷ r.0, r.1)))
+    Ok (map bare (take (value f) places) ++ call e.0 (take k ml) ∷ r.0, r.1)))
 
 -- the number of ML values that a listed base takes
 unfoldable pub values_if : Bool → List ℕ → ℕ
@@ -49,16 +49,16 @@ read_group ml? named seq group ml =
     let header = up_to comma group in
     need (leb 2 (length header)) 5
     (and_then (read_spots (values_if ml? header) (denied_to header named) (led_by comma group) (tracked (base_of header) seq) ml) (λ r.
-    done (record { header = header; spots = r.0 }, r.1)))
+    Ok (record { header = header; spots = r.0 }, r.1)))
 
 -- Reads the groups from the left; after the last one no ML value may be left over.
 unfoldable pub read_groups : Bool → (ℕ → Bool) → List ℕ → List (List ℕ) → List ℕ → Outcome (List Group)
 unfolding read_group
-read_groups ml? named seq [] ml = need (is_empty ml) 9 (done [])
+read_groups ml? named seq [] ml = need (is_empty ml) 9 (Ok [])
 read_groups ml? named seq (g ∷ gs) ml =
     and_then (read_group ml? named seq g ml) (λ r.
     and_then (read_groups ml? named seq gs r.1) (λ rest.
-    done (r.0 ∷ rest)))
+    Ok (r.0 ∷ rest)))
 
 -- Reads a whole text. Only a group whose header ends in '?' may list a call at a named place.
 unfoldable pub read : Bool → (ℕ → Bool) → List ℕ → List ℕ → List ℕ → Outcome (List Group)
@@ -71,7 +71,7 @@ read ml? named seq text ml =
 -- what the tag lists, group by group
 unfoldable pub lists : Bool → List ℕ → List ℕ → List ℕ → Outcome (List Listing)
 unfolding read
-lists ml? seq text ml = and_then (read ml? nowhere seq text ml) (λ gs. done (map listing gs))
+lists ml? seq text ml = and_then (read ml? nowhere seq text ml) (λ gs. Ok (map listing gs))
 
 -- ---- the public reader
 
@@ -125,4 +125,4 @@ tally_of ml = record { above = length (filter is_above ml); below = length (filt
 -- the tally as a public call; it always takes an ML
 unfoldable pub tally_tag : List ℕ → List ℕ → List ℕ → Outcome Tally
 unfolding read_tag tally_of
-tally_tag seq text ml = and_then (read_tag true seq text ml) (λ ls. done (tally_of ml))
+tally_tag seq text ml = and_then (read_tag true seq text ml) (λ ls. Ok (tally_of ml))

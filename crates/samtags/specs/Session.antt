@@ -1,10 +1,10 @@
 -- The edit session: its three steps on the session's contents, then on the lent buffers. Also a run of steps, each on the memory that the last one left.
 -- Assumes nothing.
-use Rattle.std.specs.Prelude.{ℕ, suc, ◌+◌, ◌-◌, Bool, true, cond, not, ◌&&◌, List, [], ◌∷◌, length, take, drop, leb, eqb}
+use Rattle.std.specs.Prelude.{ℕ, suc, ◌+◌, ◌-◌, Bool, true, cond, not, ◌&&◌, List, [], ◌∷◌, length, take, drop, leb, eqb, Ok, Err}
 use Rattle.lent.specs.Lists.{among}
 use Rattle.lent.specs.Filled.{over}
 use Rattle.samtags.specs.Bytes.{letter_n}
-use Rattle.lent.specs.Outcome.{Outcome, refused, done, need, and_then, number_of}
+use Rattle.lent.specs.Outcome.{Outcome, need, and_then, number_of}
 use Rattle.samtags.specs.Spots.{Listing}
 use Rattle.samtags.specs.Reading.{lists}
 use Rattle.samtags.specs.Writing.{Tag}
@@ -38,7 +38,7 @@ window a n seq = take n (drop a seq)
 
 -- the new SEQ with the edited tag; without ML the ML stays unchanged
 abbrev pub held_with : Bool → Held → List ℕ → Outcome Tag → Outcome Held
-held_with ml? s seq o = and_then o (λ r. done (record { seq = seq; text = r.text; ml = cond ml? r.ml s.ml }))
+held_with ml? s seq o = and_then o (λ r. Ok (record { seq = seq; text = r.text; ml = cond ml? r.ml s.ml }))
 
 -- a step's outcome: a refusal or 21, or the new contents of the session
 unfoldable pub stepped : Bool → Step → Held → Outcome Held
@@ -56,8 +56,8 @@ stepped ml? (cut front back) s =
 module _ {A : Type 0} where
   -- a refused step, or 21, changes nothing
   abbrev pub after_step : A → Outcome A → A
-  after_step s (refused r) = s
-  after_step s (done s') = s'
+  after_step s (Err r) = s
+  after_step s (Ok s') = s'
 
 unfoldable pub run : Bool → List Step → Held → Held
 unfolding stepped
@@ -117,7 +117,7 @@ open_session ml? m = in_order_of ml? m (lists ml? (held_in m).seq (held_in m).te
 -- a step on the buffers, whoever wrote their contents
 unfoldable pub step_in_memory : Bool → Step → Memory → Outcome Memory
 unfolding stepped over
-step_in_memory ml? t m = in_order_of ml? m (and_then (stepped ml? t (held_in m)) (λ s. done (stored ml? m s)))
+step_in_memory ml? t m = in_order_of ml? m (and_then (stepped ml? t (held_in m)) (λ s. Ok (stored ml? m s)))
 
 unfoldable pub run_in_memory : Bool → List Step → Memory → Memory
 unfolding step_in_memory

@@ -1,14 +1,12 @@
 -- The answer of a walk over a tag, and the columns after it, step by step. These are contracts of private functions; no promise rests on them.
 -- Assumes nothing.
-use Rattle.std.specs.Prelude.{ℕ, suc, ◌+◌, ◌≤◌, ◌≡◌, List, map, length, drop}
+use Rattle.std.specs.Prelude.{ℕ, suc, ◌+◌, ◌≤◌, ◌≡◌, List, map, length, drop, Ok, Err}
 use Rattle.std.proofs.lemmas.List.Edits.{sets}
-use Rattle.lent.specs.Outcome.{Outcome, refused, done, on_done}
+use Rattle.lent.specs.Outcome.{Outcome, on_done}
 use Rattle.samtags.specs.Text.{up_to}
 use Rattle.samtags.specs.Spots.{Spot, Group, Call, calls_in, listing}
 use Rattle.samtags.specs.Reading.{Row, rows_of, values_in, rows_from}
 use Rattle.scanning.specs.declared.Cursor.{Cursor}
-use Rattle.scanning.specs.declared.Scan.{Scan}
-use Rattle.scanning.specs.declared.Scan.TheVariants.{To, Refused}
 
 pub record Columns : Type 0 where
   pub groups : List ℕ
@@ -57,20 +55,20 @@ finished g c n u gs = record {
 }
 
 -- the answer agrees with o, the outcome of the entries from the separator at c on
-abbrev pub EntriesScanned : List ℕ → List ℕ → Cursor → Outcome (List Spot × List ℕ) → Columns → Scan → Columns → Type 0
-EntriesScanned text ml c o before (Refused r) after = o ≡ refused r
-EntriesScanned text ml c o before (To d) after =
+abbrev pub EntriesScanned : List ℕ → List ℕ → Cursor → Outcome (List Spot × List ℕ) → Columns → Outcome Cursor → Columns → Type 0
+EntriesScanned text ml c o before (Err r) after = o ≡ Err r
+EntriesScanned text ml c o before (Ok d) after =
     (d.at ≡ c.at + length (up_to 59 (drop c.at text))) × (d.used ≤ length ml) × (d.group ≡ c.group) × (d.calls ≤ d.at)
-    × (on_done (listed_spots c.group before c.calls c.used) o ≡ done (record { rows = after; calls = d.calls; used = d.used }, drop d.used ml))
+    × (on_done (listed_spots c.group before c.calls c.used) o ≡ Ok (record { rows = after; calls = d.calls; used = d.used }, drop d.used ml))
 
 -- the answer agrees with o, the outcome of the group at c
-abbrev pub GroupScanned : List ℕ → List ℕ → Cursor → Outcome (Group × List ℕ) → Columns → Scan → Columns → Type 0
-GroupScanned text ml c o before (Refused r) after = o ≡ refused r
-GroupScanned text ml c o before (To d) after =
+abbrev pub GroupScanned : List ℕ → List ℕ → Cursor → Outcome (Group × List ℕ) → Columns → Outcome Cursor → Columns → Type 0
+GroupScanned text ml c o before (Err r) after = o ≡ Err r
+GroupScanned text ml c o before (Ok d) after =
     (d.at ≡ c.at + length (up_to 59 (drop c.at text)) + 1) × (d.used ≤ length ml) × (d.group ≡ c.group + 1) × (d.calls ≤ d.at)
-    × (on_done (listed_group (c.group + 1) before c.calls c.used) o ≡ done (record { rows = after; calls = d.calls; used = d.used }, drop d.used ml))
+    × (on_done (listed_group (c.group + 1) before c.calls c.used) o ≡ Ok (record { rows = after; calls = d.calls; used = d.used }, drop d.used ml))
 
 -- the answer agrees with o, the outcome of all groups
-abbrev pub TagScanned : Outcome (List Group) → Columns → Scan → Columns → Type 0
-TagScanned o before (Refused r) after = o ≡ refused r
-TagScanned o before (To d) after = on_done (finished 0 before 0 0) o ≡ done (record { rows = after; groups = d.group; calls = d.calls })
+abbrev pub TagScanned : Outcome (List Group) → Columns → Outcome Cursor → Columns → Type 0
+TagScanned o before (Err r) after = o ≡ Err r
+TagScanned o before (Ok d) after = on_done (finished 0 before 0 0) o ≡ Ok (record { rows = after; groups = d.group; calls = d.calls })

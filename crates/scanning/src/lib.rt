@@ -8,11 +8,10 @@ ghost use Rattle.samtags.specs.Text.{up_to, led_by, closed_by};
 ghost use Rattle.samtags.specs.Spots.{tracked};
 ghost use Rattle.samtags.specs.Reading.{nowhere, read_spots, read_group, read_groups};
 ghost use Rattle.fields.specs.Fields.{field_of};
-ghost use Rattle.scanning.specs.Answers.{scan_refusal};
 ghost use Rattle.scanning.specs.Scanning.{columns, EntriesScanned, GroupScanned, TagScanned};
 
 use lent::Refusal;
-use places::{Entry, Place, find_entry};
+use places::{Place, find_entry};
 
 // The state of a walk: the next byte of the text, the next value of ML, and how many groups and calls were passed.
 #[derive(Clone, Copy)]
@@ -21,33 +20,6 @@ pub struct Cursor {
     pub used: usize,
     pub group: usize,
     pub calls: usize,
-}
-
-#[derive(Clone, Copy)]
-pub enum Scan {
-    To(Cursor),
-    Refused(Refusal),
-}
-
-impl Scan {
-    // The refusal, unchanged. `To` gives the number 0.
-    pub fn refusal(self) -> Refusal
-        ensures { result ≡ scan_refusal self }
-    {
-        match self {
-            Scan::To(_) => Refusal(0),
-            Scan::Refused(refusal) => refusal,
-        }
-    }
-}
-
-// Stores an entry of a column if the column is long enough.
-fn put(column: &mut [u32], n: usize, v: u32)
-    ensures { column.new ≡ set column.old n v }
-{
-    if n < column.len() {
-        column[n] = v;
-    }
 }
 
 // Stores a call's row at index n of the list.
@@ -65,9 +37,9 @@ fn list_call(
     ensures places_after { places.new ≡ set places.old n place.0 }
     ensures starts_after { starts.new ≡ set starts.old n start }
 {
-    put(groups, n, group as u32);
-    put(places, n, place.0 as u32);
-    put(starts, n, start as u32);
+    numbers::put(groups, n, group as u32);
+    numbers::put(places, n, place.0 as u32);
+    numbers::put(starts, n, start as u32);
 }
 
 // Scans a group's entries, from the separator at the cursor on, up to the ';' that closes the group.
@@ -81,7 +53,7 @@ fn scan_entries(
     groups: &mut [u32],
     places: &mut [u32],
     starts: &mut [u32],
-) -> Scan
+) -> Result<Cursor, Refusal>
     requires seq_len_bound { (length seq.now ≤ 16000) × (length text.now ≤ 65536) × (length ml.now ≤ 65536) }
     requires text_in_bounds { start.at + length (up_to semicolon (drop start.at text.now)) < length text.now }
     requires text_len { length (field_of (drop start.at text.now)) ≡ 0 }
@@ -97,14 +69,12 @@ fn scan_entries(
     let mut used = start.used;
     let mut calls = start.calls;
     let mut from = Place(0);
+    // A cursor, not a count: an entry's field is as long as it is.
     while text[at] == b',' {
         let field = fields::next_field(text, at + 1);
-        let entry = find_entry(seq, base, field, from);
-        let Entry::On(place) = entry else {
-            return Scan::Refused(entry.refusal());
-        };
+        let place = find_entry(seq, base, field, from)?;
         if ml.len() - used < values {
-            return Scan::Refused(Refusal(8));
+            return Err(Refusal::MlTooShort);
         }
         list_call(groups, places, starts, calls, start.group, place, used);
         from = Place(place.0 + 1);
@@ -112,11 +82,11 @@ fn scan_entries(
         calls = calls + 1;
         at = at + 1 + field.len();
     }
-    Scan::To(Cursor {
-        at: at,
-        used: used,
+    Ok(Cursor {
+        at,
+        used,
         group: start.group,
-        calls: calls,
+        calls,
     })
 }
 
@@ -130,7 +100,7 @@ fn scan_group(
     groups: &mut [u32],
     places: &mut [u32],
     starts: &mut [u32],
-) -> Scan
+) -> Result<Cursor, Refusal>
     requires seq_len_bound { (length seq.now ≤ 16000) × (length text.now ≤ 65536) × (length ml.now ≤ 65536) }
     requires text_in_bounds { start.at + length (up_to semicolon (drop start.at text.now)) < length text.now }
     requires used_in_bounds { (start.used ≤ length ml.now) × (start.group ≤ start.at) × (start.calls ≤ start.at) }
@@ -143,7 +113,7 @@ fn scan_group(
     let at = start.at;
     let header = fields::next_field(text, at);
     if header.len() < 2 {
-        return Scan::Refused(Refusal(5));
+        return Err(Refusal::ShortHeader);
     }
     let values = headers::values_if(has_ml, header);
     let base = headers::base_of(header);
@@ -153,11 +123,8 @@ fn scan_group(
         group: start.group + 1,
         calls: start.calls,
     };
-    let scanned = scan_entries(seq, text, ml, base, values, entries, groups, places, starts);
-    let Scan::To(end) = scanned else {
-        return scanned;
-    };
-    Scan::To(Cursor {
+    let end = scan_entries(seq, text, ml, base, values, entries, groups, places, starts)?;
+    Ok(Cursor {
         at: end.at + 1,
         used: end.used,
         group: end.group,
@@ -174,7 +141,7 @@ pub fn scan_groups(
     groups: &mut [u32],
     places: &mut [u32],
     starts: &mut [u32],
-) -> Scan
+) -> Result<Cursor, Refusal>
     requires { (length seq.now ≤ 16000) × (length text.now ≤ 65536) × (length ml.now ≤ 65536) × (last_or 0 text.now ≡ semicolon) }
     ensures { TagScanned
         (read_groups has_ml nowhere seq.now (closed_by semicolon text.now) ml.now)
@@ -188,17 +155,14 @@ pub fn scan_groups(
         group: 0,
         calls: 0,
     };
+    // A cursor, not a count: a group is as long as it is.
     while c.at < text.len() {
-        let scanned = scan_group(seq, text, ml, has_ml, c, groups, places, starts);
-        let Scan::To(next) = scanned else {
-            return scanned;
-        };
-        c = next;
+        c = scan_group(seq, text, ml, has_ml, c, groups, places, starts)?;
     }
     if c.used < ml.len() {
-        return Scan::Refused(Refusal(9));
+        return Err(Refusal::MlLeftOver);
     }
-    Scan::To(c)
+    Ok(c)
 }
 
 // How many values of the lent ML row are used: none without ML.

@@ -1,11 +1,11 @@
 -- Writing the output line by line: one run of stores behind another, the closing lines, and the answer to the next line of the input.
 -- Assumes nothing.
+use Rattle.std.specs.Prelude.{None, Some}
 use mathlib.Core.Path.{◌≡◌, refl, sym, ap, subst, ◌∙◌}
 use Prim.Native.Nat.{ℕ, ◌+◌, ◌≤◌, ◌<◌}
 use native.Mathlib.Omega.{arith}
 use mathlib.Core.Bool.{Bool, true, false, cond}
 use mathlib.Core.List.{List, [], ◌∷◌, ◌++◌, append-nil}
-use mathlib.Core.Option.{none, some}
 use lib.ListN.{length, drop, length-append}
 use lib.Seq.{sets}
 use Rattle.lent.proofs.Stores.{sets_append}
@@ -19,7 +19,6 @@ use Rattle.lines.specs.Lines.{answer_line, decimals, line_of, lines_of, step_of}
 use Rattle.stepping.specs.Steps.{Ordered, memory}
 use Rattle.stepping.specs.declared.Lengths.{Lengths}
 use Rattle.answering.specs.Answers.{LineAnswered}
-use Rattle.answering.specs.declared.Answered.TheVariants as answered
 use Rattle.serving.specs.Serving.{after_opening, closing}
 
 -- ---- runs of stores
@@ -103,11 +102,11 @@ said_from ml? text place m = after_opening ml? (lines_of (drop place text)) (hel
 
 -- the first line of those that are left
 module _ (ml? : Bool) (l : List ℕ) (ls : List (List ℕ)) (s : Held) where
-  after_bad : step_of l ≡ none → after_opening ml? (l ∷ ls) s ≡ answer_line 13
+  after_bad : step_of l ≡ None → after_opening ml? (l ∷ ls) s ≡ answer_line 13
   unfolding after_opening
   after_bad e = rw e
 
-  after_step_lem : (t : Step) → step_of l ≡ some t
+  after_step_lem : (t : Step) → step_of l ≡ Some t
       → after_opening ml? (l ∷ ls) s ≡ answer_line (number_of (stepped ml? t s)) ++ after_opening ml? ls (after_step s (stepped ml? t s))
   unfolding after_opening
   after_step_lem t e = rw e
@@ -124,7 +123,7 @@ module _ (ml? : Bool) (text : List ℕ) (place : ℕ) (m : Memory) where
     here : lines_of (drop place text) ≡ line ∷ lines_of (drop (place + length line + 1) text)
     here = line_at text place h ∙ rw (← e)
 
-    pub bad_line : step_of line ≡ none → said_from ml? text place m ≡ answer_line 13
+    pub bad_line : step_of line ≡ None → said_from ml? text place m ≡ answer_line 13
     bad_line b =
         ap (λ (ls : List (List ℕ)). after_opening ml? ls (held_in m)) here
         ∙ after_bad ml? line (lines_of (drop (place + length line + 1) text)) (held_in m) b
@@ -135,7 +134,7 @@ module _ (ml? : Bool) (text : List ℕ) (place : ℕ) (m : Memory) where
       pub ordered : Ordered ml? m'
       pub small : n ≤ 21
 
-    pub turned : Ordered ml? m → (n : ℕ) (k : Lengths) (s t v : List ℕ) → LineAnswered ml? (step_of line) m (answered.With n k) s t v
+    pub turned : Ordered ml? m → (n : ℕ) (k : Lengths) (s t v : List ℕ) → LineAnswered ml? (step_of line) m (Some (n, k)) s t v
         → Turned n (memory s t v k)
     turned i n k s t v a =
         let f = step_follows ml? a.0 m (order_of ml? m i) in

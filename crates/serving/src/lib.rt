@@ -9,7 +9,6 @@ ghost use Rattle.stepping.specs.Steps.{Ordered, memory};
 ghost use Rattle.lines.specs.Lines.{lines_of};
 ghost use Rattle.serving.specs.Serving.{closing, after_opening};
 
-use answering::Answered;
 use stepping::Lengths;
 
 // Writes the session's contents at the end: SEQ, the MM text, and the ML if one was given.
@@ -58,10 +57,10 @@ pub fn answer_rest(
     let mut place = from;
     let mut end = at;
     let mut held = lengths;
+    // A cursor, not a count: a line is as long as it is.
     while place < input.len() {
         let line = lines::next_line(input, place);
-        let answered = answering::answer_line(line, seq, mm, ml, has_ml, held);
-        let Answered::With(number, next) = answered else {
+        let Some((number, next)) = answering::answer_line(line, seq, mm, ml, has_ml, held) else {
             return printing::put_answer(out, end, 13);
         };
         end = printing::put_answer(out, end, number);

@@ -1,26 +1,26 @@
 -- The hypothesis of demand 3's theorems can be met: for all rows and every list of steps there is a chain of calls. Each call's contract (proofs/Cited)
 -- says that the code does what the chain says, and `step_unique` says that no other outcome meets the contract.
 -- Assumes nothing.
+use Rattle.std.specs.Prelude.{Ok, Err}
 use mathlib.Core.Path.{◌≡◌, refl}
 use mathlib.Core.Bool.{Bool}
 use mathlib.Core.List.{List, [], ◌∷◌}
-use Rattle.lent.specs.Outcome.{Outcome, done, refused}
+use Rattle.lent.specs.Outcome.{Outcome}
 use Rattle.samtags.specs.Session.{Memory, Step, step_in_memory}
 use Rattle.session.specs.Chain.{Chain, left_by, steps_of}
 use Rattle.session.specs.PublicContracts.{Call, Meets, Rows, in_memory}
 use Rattle.stepping.specs.Steps.{came, leaves_memory, step_says}
-use Rattle.stepping.specs.declared.Stepped.TheVariants as stepped
 
 -- a call can answer and leave every outcome of a step
 pub answered : (w : Rows) (t : Step) (o : Outcome Memory)
     → (c : Call) × (c.asked ≡ t) × (came (step_says c.answered) c.seq c.mm c.ml ≡ leaves_memory (in_memory w) o)
 unfolding leaves_memory
-answered w t (refused r) = (record { asked = t; answered = stepped.Refused r; seq = w.seq; mm = w.mm; ml = w.ml }, refl, refl)
-answered w t (done m) =
+answered w t (Err r) = (record { asked = t; answered = Err r; seq = w.seq; mm = w.mm; ml = w.ml }, refl, refl)
+answered w t (Ok m) =
     let n = m.lengths in
     let c : Call = record {
       asked = t;
-      answered = stepped.Done (record { seq = n.seq; mm = n.text; ml = n.ml });
+      answered = Ok (record { seq = n.seq; mm = n.text; ml = n.ml });
       seq = m.seq;
       mm = m.text;
       ml = m.ml;

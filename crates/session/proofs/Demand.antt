@@ -1,13 +1,14 @@
 -- Demand 3 about this code, from the contracts of `open`, `mask`, `drop_calls` and `cut` alone. It holds for any list of calls in which each call finds
 -- the rows and the lengths as the previous call left them: the rows at the end and all the answers are what the session means. With and without ML.
 -- Assumes nothing.
+use Rattle.std.specs.Prelude.{Ok}
 use mathlib.Core.Path.{◌≡◌, refl, sym, ap, ◌∙◌, subst}
 use Prim.Native.Nat.{ℕ, ◌<◌}
 use native.Mathlib.Omega.{arith}
 use mathlib.Core.Bool.{Bool}
 use mathlib.Core.List.{List, [], ◌∷◌, map}
 use Rattle.lent.proofs.Outcome.{need_rest, on_done_inv}
-use Rattle.lent.specs.Outcome.{Outcome, done, number_of, on_done}
+use Rattle.lent.specs.Outcome.{Outcome, number_of, on_done}
 use Rattle.reading.specs.Calls.{counts_of}
 use Rattle.samtags.proofs.Memory.{session_in_memory}
 use Rattle.samtags.proofs.Memory as memory
@@ -18,7 +19,6 @@ use Rattle.samtags.specs.Session.{open_session, run_in_memory, step_in_memory}
 use Rattle.samtags.specs.Spots.{Listing}
 use Rattle.stepping.proofs.StepLaws.{by_answer}
 use Rattle.stepping.specs.Steps.{lengths_of, step_says}
-use Rattle.reading.specs.declared.Reading.TheVariants as reading
 use Rattle.session.specs.Chain.{Chain, at_end, left_by, ml_in, numbers_of, seq_in, steps_of, text_in}
 use Rattle.session.specs.PublicContracts.{Call, Meets, Opens, Rows, in_memory}
 
@@ -61,22 +61,22 @@ pub record As-meant (ml? : Bool) (w : Rows) (ls : List Listing) (cs : List Call)
   pub seq_then : seq_in (at_end w cs) ≡ left_of_seq (after_steps ls (steps_of cs) (opening (seq_in w))) (seq_in w)
   pub lists_then :
       (let end = at_end w cs in lists ml? (seq_in end) (text_in end) (ml_in end))
-      ≡ done (map (left_of_listing (after_steps ls (steps_of cs) (opening (seq_in w)))) ls)
+      ≡ Ok (map (left_of_listing (after_steps ls (steps_of cs) (opening (seq_in w)))) ls)
   pub answers_then : numbers_of cs ≡ answers_to ls (steps_of cs) (opening (seq_in w))
   -- opened again, it has as many groups and calls as are left
   pub opens_then : on_done counts_of (open_session ml? (in_memory (at_end w cs)))
-      ≡ done (counts_of (map (left_of_listing (after_steps ls (steps_of cs) (opening (seq_in w)))) ls))
+      ≡ Ok (counts_of (map (left_of_listing (after_steps ls (steps_of cs) (opening (seq_in w)))) ls))
   -- the refused steps are exactly the drops of a listed call under a header that does not end in '?', and the cuts of more than SEQ holds
   pub refused_exactly : map is_refusal (numbers_of cs) ≡ refused_steps ls (steps_of cs) (opening (seq_in w))
 
 module _ (ml? : Bool) (w : Rows) where
   -- what a session that was opened lists
-  opened_lists : (ls : List Listing) → open_session ml? (in_memory w) ≡ done ls → lists ml? (seq_in w) (text_in w) (ml_in w) ≡ done ls
+  opened_lists : (ls : List Listing) → open_session ml? (in_memory w) ≡ Ok ls → lists ml? (seq_in w) (text_in w) (ml_in w) ≡ Ok ls
   unfolding open_session
   opened_lists ls e =
       need_rest (lengths_in_buffers ml? (in_memory w)) 2 _ ls (need_rest (lengths_in_domain ml? (lengths_of w.lengths)) 1 _ ls e)
 
-  as_meant : (ls : List Listing) → open_session ml? (in_memory w) ≡ done ls → (cs : List Call) → Chain ml? w cs → As-meant ml? w ls cs
+  as_meant : (ls : List Listing) → open_session ml? (in_memory w) ≡ Ok ls → (cs : List Call) → Chain ml? w cs → As-meant ml? w ls cs
   as_meant ls e cs k =
       let r = chain_runs ml? cs w k in
       let m = session_in_memory ml? (in_memory w) ls e (steps_of cs) in
@@ -88,10 +88,10 @@ module _ (ml? : Bool) (w : Rows) where
         refused_exactly = ap (map is_refusal) r.1 ∙ memory.refused_exactly ml? (in_memory w) ls e (steps_of cs);
       }
 
-  -- Demand 3: if `open` answered Done, the tag lists as many groups and calls as it said. Whatever calls follow, the session results in what it
+  -- Demand 3: if `open` answered Ok, the tag lists as many groups and calls as it said. Whatever calls follow, the session results in what it
   -- means.
-  pub session_as_meant : (groups calls : ℕ) → Opens ml? w (reading.Done groups calls) → (cs : List Call) → Chain ml? w cs
-      → (ls : List Listing) × (lists ml? (seq_in w) (text_in w) (ml_in w) ≡ done ls)
+  pub session_as_meant : (groups calls : ℕ) → Opens ml? w (Ok (groups, calls)) → (cs : List Call) → Chain ml? w cs
+      → (ls : List Listing) × (lists ml? (seq_in w) (text_in w) (ml_in w) ≡ Ok ls)
       × (◌≡◌ {A = ℕ × ℕ} (counts_of ls) (groups, calls)) × As-meant ml? w ls cs
   session_as_meant groups calls opened cs k =
       let (ls, e, counted) = on_done_inv counts_of (open_session ml? (in_memory w)) (groups, calls) (sym opened) in

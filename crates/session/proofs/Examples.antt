@@ -1,10 +1,11 @@
 -- Steps on lent rows, by computation: the scope's session in rows that are longer than what it holds, and the edge cases of a call.
 -- Assumes nothing.
+use Rattle.std.specs.Prelude.{Ok}
 use mathlib.Core.Path.{◌≡◌, refl}
 use Prim.Native.Nat.{ℕ}
 use mathlib.Core.Bool.{true, false}
 use mathlib.Core.List.{List, [], ◌∷◌}
-use Rattle.lent.specs.Outcome.{done, number_of, refuse}
+use Rattle.lent.specs.Outcome.{number_of, refuse}
 use Rattle.samtags.specs.Bytes.{ascii}
 use Rattle.samtags.specs.Session.{Lengths, Memory, answers_in_memory, cut, drop_calls, mask, open_session, run_in_memory, step_in_memory}
 use Rattle.stepping.specs.Steps.{came, leaves_memory}
@@ -22,7 +23,7 @@ opened = rows (ascii "ACCGTCCxx") (ascii "C+m?,0,1,0;yy") (200 ∷ 90 ∷ 30 ∷
 -- the scope's session, step by step: the places of a step are those of SEQ as it finds it, and bytes past the new lengths stay as found
 pub step_by_step :
     (leaves_memory opened (step_in_memory true (mask (1 ∷ [])) opened)
-    ≡ came (done (held 7 9 2)) (ascii "ANCGTCCxx") (ascii "C+m?,1,0;0;yy") (90 ∷ 30 ∷ 30 ∷ 77 ∷ []))
+    ≡ came (Ok (held 7 9 2)) (ascii "ANCGTCCxx") (ascii "C+m?,1,0;0;yy") (90 ∷ 30 ∷ 30 ∷ 77 ∷ []))
     × (run_in_memory true (mask (1 ∷ []) ∷ drop_calls (5 ∷ []) ∷ cut 3 0 ∷ []) opened
     ≡ rows (ascii "GTCCTCCxx") (ascii "C+m?,1;0;0;yy") (30 ∷ 30 ∷ 30 ∷ 77 ∷ []) 4 7 1)
     × (answers_in_memory true (mask (1 ∷ []) ∷ drop_calls (5 ∷ []) ∷ cut 3 0 ∷ []) opened ≡ 0 ∷ 0 ∷ 0 ∷ [])

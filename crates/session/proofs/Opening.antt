@@ -1,5 +1,6 @@
 -- Opening a session: if the lengths are in order, the answer is the reader's on the front of each row.
 -- Assumes nothing.
+use Rattle.std.specs.Prelude.{Err}
 use mathlib.Core.Path.{◌≡◌, refl, sym, ap, ◌∙◌}
 use Prim.Native.Nat.{ℕ, ◌≤◌}
 use native.Mathlib.Omega.{arith}
@@ -7,7 +8,6 @@ use mathlib.Core.Bool.{Bool, true, false, cond}
 use mathlib.Core.List.{List}
 use lib.ListN.{length, length-take, take}
 use borrow.Author.Tests.{le-leb}
-use Rattle.lent.specs.Outcome.{refused}
 use Rattle.lent.specs.declared.Refusal.{Refusal}
 use Rattle.samtags.specs.Reading.{in_domain, lists, read, read_tag}
 use Rattle.samtags.specs.Session.{Memory, open_session}
@@ -15,7 +15,7 @@ use Rattle.stepping.proofs.OrderLaws.{order_refused, ordered_is, tests, values_l
 use Rattle.stepping.specs.Steps.{Ordered}
 
 module _ (ml? : Bool) (m : Memory) where
-  pub open_refused : (r : Refusal) → tests ml? m ≡ refused r → open_session ml? m ≡ refused r
+  pub open_refused : (r : Refusal) → tests ml? m ≡ Err r → open_session ml? m ≡ Err r
   unfolding open_session
   open_refused r e = order_refused ml? m _ r e
 

@@ -2,14 +2,11 @@
 -- the call. The call's `ensures` cites it, and every theorem about the call uses it.
 -- Assumes nothing.
 use Rattle.std.specs.Prelude.{◌≡◌, ℕ, Bool, List}
-use Rattle.lent.specs.Outcome.{on_done}
-use Rattle.reading.specs.Answers.{reading_says}
+use Rattle.lent.specs.Outcome.{Outcome, on_done}
 use Rattle.reading.specs.Calls.{counts_of}
-use Rattle.reading.specs.declared.Reading.{Reading}
 use Rattle.samtags.specs.Session.{Memory, Step, open_session, step_in_memory}
 use Rattle.stepping.specs.Steps.{came, leaves_memory, memory, step_says}
 use Rattle.stepping.specs.declared.Lengths.{Lengths}
-use Rattle.stepping.specs.declared.Stepped.{Stepped}
 
 -- the lent rows and the session's lengths before a call
 pub record Rows : Type 0 where
@@ -24,19 +21,19 @@ rows seq mm ml n = record { seq = seq; mm = mm; ml = ml; lengths = n }
 abbrev pub in_memory : Rows → Memory
 in_memory w = memory w.seq w.mm w.ml w.lengths
 
--- `open` on these rows: how many groups and calls the tag lists, or the number of the refusal
-abbrev pub Opens : Bool → Rows → Reading → Type 0
-Opens ml? w r = reading_says r ≡ on_done counts_of (open_session ml? (in_memory w))
+-- `open` on these rows: how many groups and calls the tag lists, or the refusal
+abbrev pub Opens : Bool → Rows → Outcome (ℕ × ℕ) → Type 0
+Opens ml? w r = r ≡ on_done counts_of (open_session ml? (in_memory w))
 
 -- a call of `mask`, `drop_calls` or `cut`: the step that was asked for, the answer, and the rows after it (a drop leaves SEQ's row unchanged)
 pub record Call : Type 0 where
   pub asked : Step
-  pub answered : Stepped
+  pub answered : Outcome Lengths
   pub seq : List ℕ
   pub mm : List ℕ
   pub ml : List ℕ
 
-abbrev pub call : Step → Stepped → List ℕ → List ℕ → List ℕ → Call
+abbrev pub call : Step → Outcome Lengths → List ℕ → List ℕ → List ℕ → Call
 call t r seq mm ml = record { asked = t; answered = r; seq = seq; mm = mm; ml = ml }
 
 -- The three steps share one contract: the answer and the rows after the call are those of the step's definition on these rows.

@@ -16,18 +16,20 @@
 ghost use Rattle.samtags.specs.Session.{cut, drop_calls, mask};
 ghost use Rattle.session.specs.PublicContracts.{Meets, Opens, call, rows};
 
-use reading::Reading;
-use stepping::order::Order;
-use stepping::{Lengths, Stepped, order};
+use lent::Refusal;
+use stepping::{Lengths, order};
 
-// Opens a session: how many groups and calls its tag has, or the number of the refusal. Nothing is written.
-pub fn open(seq: &[u8], mm: &[u8], ml: &[u8], has_ml: bool, lengths: Lengths) -> Reading
+// Opens a session: Ok with the numbers of its tag's groups and calls. Nothing is written.
+pub fn open(
+    seq: &[u8],
+    mm: &[u8],
+    ml: &[u8],
+    has_ml: bool,
+    lengths: Lengths,
+) -> Result<(usize, usize), Refusal>
     ensures { Opens has_ml (rows seq.now mm.now ml.now lengths) result }
 {
-    let found = order::lengths_in_order(seq.len(), mm.len(), ml.len(), has_ml, lengths);
-    let Order::Kept = found else {
-        return Reading::Refused(found.refusal());
-    };
+    order::lengths_in_order(seq.len(), mm.len(), ml.len(), has_ml, lengths)?;
     let bases = lengths.seq;
     let text = lengths.mm;
     let taken = scanning::values_taken(lengths.ml, has_ml);
@@ -43,14 +45,11 @@ pub fn mask(
     has_ml: bool,
     lengths: Lengths,
     places: &[u32],
-) -> Stepped
+) -> Result<Lengths, Refusal>
     ensures { Meets has_ml (rows seq.old mm.old ml.old lengths)
         (call (mask places.now) result seq.new mm.new ml.new) }
 {
-    let found = order::lengths_in_order(seq.len(), mm.len(), ml.len(), has_ml, lengths);
-    let Order::Kept = found else {
-        return Stepped::Refused(found.refusal());
-    };
+    order::lengths_in_order(seq.len(), mm.len(), ml.len(), has_ml, lengths)?;
     if lengths.seq <= 1024 {
         let mut few = changing::few_marks();
         return masking::mask_with(seq, mm, ml, has_ml, lengths, places, &mut few);
@@ -68,14 +67,11 @@ pub fn drop_calls(
     has_ml: bool,
     lengths: Lengths,
     places: &[u32],
-) -> Stepped
+) -> Result<Lengths, Refusal>
     ensures { Meets has_ml (rows seq.now mm.old ml.old lengths)
         (call (drop_calls places.now) result seq.now mm.new ml.new) }
 {
-    let found = order::lengths_in_order(seq.len(), mm.len(), ml.len(), has_ml, lengths);
-    let Order::Kept = found else {
-        return Stepped::Refused(found.refusal());
-    };
+    order::lengths_in_order(seq.len(), mm.len(), ml.len(), has_ml, lengths)?;
     if lengths.seq <= 1024 {
         let mut few = changing::few_marks();
         return dropping::drop_with(seq, mm, ml, has_ml, lengths, places, &mut few);
@@ -93,13 +89,10 @@ pub fn cut(
     lengths: Lengths,
     front: u32,
     back: u32,
-) -> Stepped
+) -> Result<Lengths, Refusal>
     ensures { Meets has_ml (rows seq.old mm.old ml.old lengths)
         (call (cut front back) result seq.new mm.new ml.new) }
 {
-    let found = order::lengths_in_order(seq.len(), mm.len(), ml.len(), has_ml, lengths);
-    let Order::Kept = found else {
-        return Stepped::Refused(found.refusal());
-    };
+    order::lengths_in_order(seq.len(), mm.len(), ml.len(), has_ml, lengths)?;
     cutting::cut_ends(seq, mm, ml, has_ml, lengths, front, back)
 }

@@ -1,5 +1,6 @@
 -- Lengths in order: what the tests check, and the result of a step when they pass and when they fail.
 -- Assumes nothing.
+use Rattle.std.specs.Prelude.{Ok, Err}
 use mathlib.Core.Path.{◌≡◌, refl, sym}
 use Prim.Native.Nat.{ℕ, ◌≤◌}
 use native.Mathlib.Omega.{arith}
@@ -9,7 +10,7 @@ use lib.ListN.{length}
 use borrow.Author.Tests.{le-leb, leb-true}
 use Rattle.lent.proofs.Outcome.{need_rest, need_test}
 use Rattle.lent.proofs.Tests.{and_true_l, and_true_r}
-use Rattle.lent.specs.Outcome.{Outcome, done, need, refused}
+use Rattle.lent.specs.Outcome.{Outcome, need, refusal}
 use Rattle.lent.specs.declared.Refusal.{Refusal}
 use Rattle.samtags.specs.Session.{Memory, in_order_of, lengths_in_domain, lengths_in_buffers}
 use Rattle.stepping.specs.Steps.{Ordered, lengths_in_rows}
@@ -53,16 +54,16 @@ three a b ml? n k e =
 abbrev pub tests : Bool → Memory → Outcome (Unit {0})
 tests ml? m =
     need (lengths_in_domain ml? m.lengths) 1
-    (need (lengths_in_rows ml? (length m.seq) (length m.text) (length m.ml) m.lengths) 2 (done tt))
+    (need (lengths_in_rows ml? (length m.seq) (length m.text) (length m.ml) m.lengths) 2 (Ok tt))
 
 module _ (ml? : Bool) (m : Memory) where
   -- they pass
-  pub order_kept : tests ml? m ≡ done tt → Ordered ml? m
+  pub order_kept : tests ml? m ≡ Ok tt → Ordered ml? m
   order_kept e =
       let n = m.lengths in
       let d = three (leb n.seq 16000) (leb n.text 65536) ml? n.ml 65536 (need_test (lengths_in_domain ml? n) 1 _ tt e) in
       let b = three (leb n.seq (length m.seq)) (leb n.text (length m.text)) ml? n.ml (length m.ml)
-      (need_test (lengths_in_buffers ml? m) 2 (done tt) tt (need_rest (lengths_in_domain ml? n) 1 _ tt e)) in (
+      (need_test (lengths_in_buffers ml? m) 2 (Ok tt) tt (need_rest (lengths_in_domain ml? n) 1 _ tt e)) in (
         leb-true n.seq 16000 d.0,
         leb-true n.text 65536 d.1,
         d.2,
@@ -72,10 +73,10 @@ module _ (ml? : Bool) (m : Memory) where
       )
 
   -- they fail, and whatever would follow is refused so
-  pub order_refused : {A : Type 0} (o : Outcome A) (r : Refusal) → tests ml? m ≡ refused r → in_order_of ml? m o ≡ refused r
+  pub order_refused : {A : Type 0} (o : Outcome A) (r : Refusal) → tests ml? m ≡ Err r → in_order_of ml? m o ≡ Err r
   order_refused {A} o r e = go (lengths_in_domain ml? m.lengths) (lengths_in_buffers ml? m) e
     where
-      go : (d b : Bool) → need d 1 (need b 2 (done (tt {0}))) ≡ refused r → need d 1 (need b 2 o) ≡ refused r
+      go : (d b : Bool) → need d 1 (need b 2 (Ok (tt {0}))) ≡ Err r → need d 1 (need b 2 o) ≡ Err r
       go true true e = let z : ◌≡◌ {A = ℕ} 0 1 = cc in absurd (omega arith)
-      go true false e = let s : ◌≡◌ {A = Refusal} (record { 0 = 2 }) r = cc in rw s
-      go false b e = let s : ◌≡◌ {A = Refusal} (record { 0 = 1 }) r = cc in rw s
+      go true false e = let s : ◌≡◌ {A = Refusal} (refusal 2) r = cc in rw s
+      go false b e = let s : ◌≡◌ {A = Refusal} (refusal 1) r = cc in rw s

@@ -1,30 +1,25 @@
 -- A step of a session on its lent rows: its answer, and the rows after it.
 -- Assumes nothing.
-use Rattle.std.specs.Prelude.{ℕ, ◌≤◌, Bool, cond, true, ◌&&◌, List, length, leb}
-use Rattle.lent.specs.Outcome.{Outcome, refused, done, refusal, and_then}
-use Rattle.lent.specs.declared.Refusal.{Refusal}
+use Rattle.std.specs.Prelude.{ℕ, ◌≤◌, Bool, cond, true, ◌&&◌, List, length, leb, Ok, Err}
+use Rattle.lent.specs.Outcome.{Outcome, and_then}
 use Rattle.samtags.specs.Session.{Lengths, Memory, held_in, held_with, stored}
 use Rattle.samtags.specs.Writing.{Tag}
 use Rattle.stepping.specs.declared.Lengths.{Lengths as Declared}
-use Rattle.stepping.specs.declared.Stepped.{Stepped}
-use Rattle.stepping.specs.declared.Stepped.TheVariants as stepped
-use Rattle.stepping.specs.declared.order.Order.{Order}
-use Rattle.stepping.specs.declared.order.Order.TheVariants as order
 
 -- ---- the answers
 
 abbrev pub lengths_of : Declared → Lengths
 lengths_of n = record { seq = n.seq; text = n.mm; ml = n.ml }
 
--- `Stepped` as an outcome: done with the lengths, or the refusal or 21
-abbrev pub step_says : Stepped → Outcome Lengths
-step_says (stepped.Done n) = done (lengths_of n)
-step_says (stepped.Refused r) = refused r
+-- a step's answer, with the lengths as the definitions have them
+abbrev pub step_says : Outcome Declared → Outcome Lengths
+step_says (Ok n) = Ok (lengths_of n)
+step_says (Err r) = Err r
 
 -- the lengths for the next step: the new ones, or the old ones after a refusal
-abbrev pub lengths_after : Stepped → Declared → Declared
-lengths_after (stepped.Done n) old = n
-lengths_after (stepped.Refused r) old = old
+abbrev pub lengths_after : Outcome Declared → Declared → Declared
+lengths_after (Ok n) old = n
+lengths_after (Err r) old = old
 
 -- ---- the rows
 
@@ -44,26 +39,18 @@ came answer seq text ml = record { answer = answer; seq = seq; text = text; ml =
 
 -- a step on m with the outcome o: the new lengths and the new rows; a refusal, or 21, leaves every row unchanged
 unfoldable pub leaves_memory : Memory → Outcome Memory → Came
-leaves_memory m (refused r) = came (refused r) m.seq m.text m.ml
-leaves_memory m (done n) = came (done n.lengths) n.seq n.text n.ml
+leaves_memory m (Err r) = came (Err r) m.seq m.text m.ml
+leaves_memory m (Ok n) = came (Ok n.lengths) n.seq n.text n.ml
 
 -- SEQ becomes `after`, and the tag becomes the edited tag
 abbrev pub stored_with : Bool → Memory → List ℕ → Outcome Tag → Outcome Memory
-stored_with ml? m after o = and_then (held_with ml? (held_in m) after o) (λ s. done (stored ml? m s))
+stored_with ml? m after o = and_then (held_with ml? (held_in m) after o) (λ s. Ok (stored ml? m s))
 
 -- ---- the order of the lengths: contracts of support functions; no promise rests on them
 
 -- the lengths n are not longer than the rows' lengths s, t and v
 abbrev pub lengths_in_rows : Bool → ℕ → ℕ → ℕ → Lengths → Bool
 lengths_in_rows ml? s t v n = leb n.seq s && leb n.text t && cond ml? (leb n.ml v) true
-
-abbrev pub order_says : Order → Outcome (Unit {0})
-order_says order.Kept = done tt
-order_says (order.Refused r) = refused r
-
-abbrev pub order_refusal : Order → Refusal
-order_refusal order.Kept = refusal 0
-order_refusal (order.Refused r) = r
 
 -- the lengths are within the domain and within the rows; without ML the ML length is ignored
 abbrev pub Ordered : Bool → Memory → Type 0

@@ -1,4 +1,4 @@
-// What the three steps of an edit session share: how much of each lent row the session holds, the answer of a step, and the tag edited in place. The
+// What the three steps of an edit session share: how much of each lent row the session holds, and the tag edited in place. The
 // steps are `masking`, `dropping` and `cutting`. A support crate: its functions may have a `requires`; the public calls are in `session`.
 //
 // order: whether a session's lengths are in order. tags: edits the tag at the front of its rows.
@@ -19,27 +19,16 @@ pub struct Lengths {
     pub ml: usize,
 }
 
-// The answer of a step: the session's new lengths, or why nothing was changed. 21, a cut of nothing, is represented in the same way.
-#[derive(Clone, Copy)]
-pub enum Stepped {
-    Done(Lengths),
-    Refused(Refusal),
-}
-
 // The lengths after a step; `kept` values of ML are left. Without ML the ML length stays as given.
 pub fn lengths_now(seq: usize, mm: usize, kept: usize, has_ml: bool, before: Lengths) -> Lengths
     ensures { (result.seq ≡ seq) × (result.mm ≡ mm) × (result.ml ≡ cond has_ml kept before.ml) }
 {
     if has_ml {
-        return Lengths {
-            seq: seq,
-            mm: mm,
-            ml: kept,
-        };
+        return Lengths { seq, mm, ml: kept };
     }
     Lengths {
-        seq: seq,
-        mm: mm,
+        seq,
+        mm,
         ml: before.ml,
     }
 }

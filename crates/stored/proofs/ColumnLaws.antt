@@ -1,7 +1,8 @@
 -- The list of calls with its places counted in the stored read: from the columns that the plain reader left to those of the stored read.
 -- Assumes nothing.
+use Rattle.std.specs.Prelude.{Ok, Err}
 use mathlib.Core.Path.{◌≡◌, sym, ap, ◌∙◌}
-use Prim.Native.Nat.{ℕ, ◌+◌, ◌≤◌}
+use Prim.Native.Nat.{ℕ, ◌≤◌}
 use native.Mathlib.Omega.{arith}
 use mathlib.Core.Bool.{Bool, true, false}
 use mathlib.Core.List.{List, map, ◌++◌}
@@ -10,13 +11,10 @@ use lib.Seq.{drop-append_seam, length-take-le}
 use Rattle.lent.proofs.Filled.{over_front}
 use Rattle.lent.proofs.Outcome.{done_inj}
 use Rattle.lent.specs.Filled.{leaves, over}
-use Rattle.lent.specs.Outcome.{Outcome, done, on_done, refused}
+use Rattle.lent.specs.Outcome.{Outcome, on_done}
 use Rattle.lent.specs.declared.Refusal.{Refusal}
 use Rattle.packed.specs.Stored.{mirrored}
-use Rattle.reading.specs.Answers.{reading_says}
 use Rattle.reading.specs.Calls.{CallsRead, calls_read, counts_of, group_column, place_column, start_column}
-use Rattle.reading.specs.declared.Reading.{Reading}
-use Rattle.reading.specs.declared.Reading.TheVariants as reading
 use Rattle.samtags.specs.Reading.{Row, call_list}
 use Rattle.samtags.specs.Spots.{Listing}
 use Rattle.stored.specs.Mirrors.{CallsIn, places_as_stored}
@@ -46,52 +44,52 @@ front_mirrored n k j places new e l f =
 
 module _ (reverse : Bool) (n : ℕ) (groups places starts g p s : List ℕ) where
   -- the plain reader's columns, for the outcome o
-  abbrev Left : Reading → Outcome (List Listing) → Type 0
-  Left r o = calls_read (reading_says r) g p s ≡ calls_read (on_done counts_of o) (leaves group_column o groups) (leaves place_column o places) (leaves start_column o starts)
+  abbrev Left : Outcome (ℕ × ℕ) → Outcome (List Listing) → Type 0
+  Left r o = calls_read r g p s ≡ calls_read (on_done counts_of o) (leaves group_column o groups) (leaves place_column o places) (leaves start_column o starts)
 
-  counted : (a b : ℕ) (ls : List Listing) → ◌≡◌ {A = Outcome (ℕ × ℕ)} (done (a, b)) (done (counts_of ls)) → b ≡ length (place_column ls)
+  counted : (a b : ℕ) (ls : List Listing) → ◌≡◌ {A = Outcome (ℕ × ℕ)} (Ok (a, b)) (Ok (counts_of ls)) → b ≡ length (place_column ls)
   counted a b ls e =
       let pair : ◌≡◌ {A = ℕ × ℕ} (a, b) (counts_of ls) = done_inj e in
       ap (λ (q : ℕ × ℕ). q.1) pair ∙ sym (length-map (call_list ls) (λ (r : Row). r.place))
 
-  pub calls_fit : (r : Reading) (o : Outcome (List Listing)) → Left r o → CallsIn r (length p)
+  pub calls_fit : (r : Outcome (ℕ × ℕ)) (o : Outcome (List Listing)) → Left r o → CallsIn r (length p)
   unfolding leaves over
-  calls_fit (reading.Done a b) (done ls) e =
+  calls_fit (Ok (a, b)) (Ok ls) e =
       let long = counted a b ls (ap (λ (x : CallsRead). x.answer) e) in
       let is : p ≡ over (place_column ls) places = ap (λ (x : CallsRead). x.places) e in
       let sum = length-append (place_column ls) (drop (length (place_column ls)) places) in
       omega (arith, long, ap length is, sum)
-  calls_fit (reading.Done a b) (refused q) e =
-      let x : ◌≡◌ {A = Outcome (ℕ × ℕ)} (done (a, b)) (refused q) = ap (λ (x : CallsRead). x.answer) e in
+  calls_fit (Ok (a, b)) (Err q) e =
+      let x : ◌≡◌ {A = Outcome (ℕ × ℕ)} (Ok (a, b)) (Err q) = ap (λ (x : CallsRead). x.answer) e in
       let z : ◌≡◌ {A = ℕ} 0 1 = cc in absurd (omega arith)
-  calls_fit (reading.Refused r) o e = tt
+  calls_fit (Err r) o e = tt
 
-  pub columns_stored : (r : Reading) (o : Outcome (List Listing)) → Left r o
-      → calls_read (reading_says r) g (places_as_stored r reverse n p) s
+  pub columns_stored : (r : Outcome (ℕ × ℕ)) (o : Outcome (List Listing)) → Left r o
+      → calls_read r g (places_as_stored r reverse n p) s
       ≡ calls_read (on_done counts_of o) (leaves group_column o groups) (leaves (stored_column reverse n) o places) (leaves start_column o starts)
   unfolding leaves
-  columns_stored (reading.Done a b) (done ls) e =
+  columns_stored (Ok (a, b)) (Ok ls) e =
       let long = counted a b ls (ap (λ (x : CallsRead). x.answer) e) in
       let is : p ≡ over (place_column ls) places = ap (λ (x : CallsRead). x.places) e in
       let column = by_way reverse b ls long is in
       λ j. calls_read (e j).answer (e j).groups (column j) (e j).starts
     where
       by_way : (way : Bool) (b : ℕ) (ls : List Listing) → b ≡ length (place_column ls) → p ≡ over (place_column ls) places
-          → places_as_stored (reading.Done a b) way n p ≡ over (stored_column way n ls) places
+          → places_as_stored (Ok (a, b)) way n p ≡ over (stored_column way n ls) places
       by_way true b ls long is =
           ap (λ (q : List ℕ). over (map (mirrored n) (take b q)) q) is ∙ mirrored_column n b (place_column ls) places long
       by_way false b ls long is = is
-  columns_stored (reading.Done a b) (refused q) e =
-      let x : ◌≡◌ {A = Outcome (ℕ × ℕ)} (done (a, b)) (refused q) = ap (λ (x : CallsRead). x.answer) e in
+  columns_stored (Ok (a, b)) (Err q) e =
+      let x : ◌≡◌ {A = Outcome (ℕ × ℕ)} (Ok (a, b)) (Err q) = ap (λ (x : CallsRead). x.answer) e in
       let z : ◌≡◌ {A = ℕ} 0 1 = cc in absurd (omega arith)
-  columns_stored (reading.Refused r) (done ls) e =
-      let x : ◌≡◌ {A = Outcome (ℕ × ℕ)} (refused r) (done (counts_of ls)) = ap (λ (x : CallsRead). x.answer) e in
+  columns_stored (Err r) (Ok ls) e =
+      let x : ◌≡◌ {A = Outcome (ℕ × ℕ)} (Err r) (Ok (counts_of ls)) = ap (λ (x : CallsRead). x.answer) e in
       let z : ◌≡◌ {A = ℕ} 0 1 = cc in absurd (omega arith)
-  columns_stored (reading.Refused r) (refused q) e = e
+  columns_stored (Err r) (Err q) e = e
 
 -- a refused call leaves every column
-pub calls_left : (column : List Listing → List ℕ) (groups places starts : List ℕ) (o : Outcome (List Listing)) (r : Refusal) → o ≡ refused r
-    → calls_read (refused r) groups places starts
+pub calls_left : (column : List Listing → List ℕ) (groups places starts : List ℕ) (o : Outcome (List Listing)) (r : Refusal) → o ≡ Err r
+    → calls_read (Err r) groups places starts
     ≡ calls_read (on_done counts_of o) (leaves group_column o groups) (leaves column o places) (leaves start_column o starts)
 unfolding leaves
 calls_left column groups places starts o r e = rw e

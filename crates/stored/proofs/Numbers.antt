@@ -9,14 +9,11 @@ use lib.ListN.{length, take}
 use Rattle.lent.proofs.Answers.{answers, only_and_then, only_need, only_on_done}
 use Rattle.lent.specs.Answers.{Answers, refuses_only}
 use Rattle.lent.specs.Lists.{among}
-use Rattle.lent.specs.Outcome.{Outcome, number_of, on_done, says}
-use Rattle.lent.specs.declared.Written.{Written}
+use Rattle.lent.specs.Outcome.{Outcome, number_of, on_done}
 use Rattle.packed.specs.Packed.{turn}
 use Rattle.packed.specs.Stored.{as_stored, in_read}
-use Rattle.reading.specs.Answers.{reading_says, tally_says}
+use Rattle.reading.specs.Answers.{tally_says}
 use Rattle.reading.specs.Calls.{CallsRead, counts_of, listed_calls}
-use Rattle.reading.specs.declared.Reading.{Reading}
-use Rattle.reading.specs.declared.Tallied.{Tallied}
 use Rattle.samtags.proofs.Numbers.{bad_tags, good_tag, read_tag_only, read_tag_without_ml, tally_tag_only}
 use Rattle.samtags.specs.Reading.{call_list, read_tag}
 use Rattle.samtags.specs.Session.{Held}
@@ -55,17 +52,17 @@ pub unpack_stored_only : (reverse : Bool) (n : ℕ) (packed : List ℕ) (room : 
 unfolding unpack_stored
 unpack_stored_only reverse n packed room = bases_only n packed room (in_read reverse n packed)
 
-fills_answers : (o : Outcome (List ℕ)) (row : List ℕ) (r : Written) (row' : List ℕ) → refuses_only bases_numbers o ≡ true
-    → Fills o row r row' → Answers bases_numbers (says r)
+fills_answers : (o : Outcome (List ℕ)) (row : List ℕ) (r : Outcome ℕ) (row' : List ℕ) → refuses_only bases_numbers o ≡ true
+    → Fills o row r row' → Answers bases_numbers r
 fills_answers o row r row' h e =
-    let is : says r ≡ on_done length o = e.0 in
+    let is : r ≡ on_done length o = e.0 in
     rw is (answers bases_numbers _ refl (only_on_done bases_numbers length o h))
 
-pub turn_numbers : (n : ℕ) (packed out : List ℕ) (r : Written) (out' : List ℕ) → Turns n packed out r out' → Answers bases_numbers (says r)
+pub turn_numbers : (n : ℕ) (packed out : List ℕ) (r : Outcome ℕ) (out' : List ℕ) → Turns n packed out r out' → Answers bases_numbers r
 turn_numbers n packed out r out' = fills_answers (turn_stored n packed (length out)) out r out' (turn_stored_only n packed (length out))
 
-pub unpack_numbers : (reverse : Bool) (n : ℕ) (packed seq : List ℕ) (r : Written) (seq' : List ℕ)
-    → Unpacks reverse n packed seq r seq' → Answers bases_numbers (says r)
+pub unpack_numbers : (reverse : Bool) (n : ℕ) (packed seq : List ℕ) (r : Outcome ℕ) (seq' : List ℕ)
+    → Unpacks reverse n packed seq r seq' → Answers bases_numbers r
 unpack_numbers reverse n packed seq r seq' =
     fills_answers (unpack_stored reverse n packed (length seq)) seq r seq' (unpack_stored_only reverse n packed (length seq))
 
@@ -88,15 +85,15 @@ module _ (ns : List ℕ) (no_zero : among ns 0 ≡ false) (one : among ns 1 ≡ 
       (only_and_then ns (read_tag ml? (in_read reverse n packed) mm ml) _ reader's (λ ls.
       only_need ns (leb (length (call_list ls)) groups && leb (length (call_list ls)) places && leb (length (call_list ls)) starts) 12 _ twelve refl)))
 
-  check_answers : (r : Reading) → ChecksStored reverse ml? n packed mm ml r → Answers ns (reading_says r)
+  check_answers : (r : Outcome (ℕ × ℕ)) → ChecksStored reverse ml? n packed mm ml r → Answers ns r
   check_answers r e = rw e (answers ns _ no_zero (only_on_done ns counts_of (read_stored reverse ml? n packed mm ml) read_from))
 
-  calls_answers : among ns 12 ≡ true → (groups places starts : List ℕ) (r : Reading) (groups' places' starts' : List ℕ)
-      → ReadsStored reverse ml? n packed mm ml groups places starts r groups' places' starts' → Answers ns (reading_says r)
+  calls_answers : among ns 12 ≡ true → (groups places starts : List ℕ) (r : Outcome (ℕ × ℕ)) (groups' places' starts' : List ℕ)
+      → ReadsStored reverse ml? n packed mm ml groups places starts r groups' places' starts' → Answers ns r
   unfolding read_stored_calls
   calls_answers twelve groups places starts r groups' places' starts' e =
       let o = listed_stored reverse ml? n packed mm ml (length groups) (length places) (length starts) in
-      let is : reading_says r ≡ on_done counts_of o = ap (λ (c : CallsRead). c.answer) e in
+      let is : r ≡ on_done counts_of o = ap (λ (c : CallsRead). c.answer) e in
       rw is (answers ns _ no_zero (only_on_done ns counts_of o (listed_from twelve (length groups) (length places) (length starts))))
 
 module _ (reverse ml? : Bool) (n : ℕ) (packed mm ml : List ℕ) where
@@ -108,23 +105,23 @@ module _ (reverse ml? : Bool) (n : ℕ) (packed mm ml : List ℕ) where
   listed_stored_only =
       listed_from calls_numbers refl refl refl reverse ml? n packed mm ml (read_tag_only calls_numbers refl refl ml? (in_read reverse n packed) mm ml) refl
 
-  pub check_tag_numbers : (r : Reading) → ChecksStored reverse ml? n packed mm ml r → Answers check_numbers (reading_says r)
+  pub check_tag_numbers : (r : Outcome (ℕ × ℕ)) → ChecksStored reverse ml? n packed mm ml r → Answers check_numbers r
   check_tag_numbers =
       check_answers check_numbers refl refl refl reverse ml? n packed mm ml (read_tag_only check_numbers refl refl ml? (in_read reverse n packed) mm ml)
 
-  pub read_calls_numbers : (groups places starts : List ℕ) (r : Reading) (groups' places' starts' : List ℕ)
-      → ReadsStored reverse ml? n packed mm ml groups places starts r groups' places' starts' → Answers calls_numbers (reading_says r)
+  pub read_calls_numbers : (groups places starts : List ℕ) (r : Outcome (ℕ × ℕ)) (groups' places' starts' : List ℕ)
+      → ReadsStored reverse ml? n packed mm ml groups places starts r groups' places' starts' → Answers calls_numbers r
   read_calls_numbers =
       calls_answers calls_numbers refl refl refl reverse ml? n packed mm ml (read_tag_only calls_numbers refl refl ml? (in_read reverse n packed) mm ml) refl
 
 module _ (reverse : Bool) (n : ℕ) (packed mm ml : List ℕ) where
-  pub check_tag_numbers_without_ml : (r : Reading) → ChecksStored reverse false n packed mm ml r → Answers check_numbers_without_ml (reading_says r)
+  pub check_tag_numbers_without_ml : (r : Outcome (ℕ × ℕ)) → ChecksStored reverse false n packed mm ml r → Answers check_numbers_without_ml r
   check_tag_numbers_without_ml =
       check_answers check_numbers_without_ml refl refl refl reverse false n packed mm ml
       (read_tag_without_ml check_numbers_without_ml refl refl (in_read reverse n packed) mm ml)
 
-  pub read_calls_numbers_without_ml : (groups places starts : List ℕ) (r : Reading) (groups' places' starts' : List ℕ)
-      → ReadsStored reverse false n packed mm ml groups places starts r groups' places' starts' → Answers calls_numbers_without_ml (reading_says r)
+  pub read_calls_numbers_without_ml : (groups places starts : List ℕ) (r : Outcome (ℕ × ℕ)) (groups' places' starts' : List ℕ)
+      → ReadsStored reverse false n packed mm ml groups places starts r groups' places' starts' → Answers calls_numbers_without_ml r
   read_calls_numbers_without_ml =
       calls_answers calls_numbers_without_ml refl refl refl reverse false n packed mm ml
       (read_tag_without_ml calls_numbers_without_ml refl refl (in_read reverse n packed) mm ml) refl
@@ -135,7 +132,7 @@ module _ (reverse : Bool) (n : ℕ) (packed mm ml : List ℕ) where
       only_need check_numbers (stated_in_domain true n mm ml) 1 _ refl
       (only_need check_numbers (is_exact n packed) 2 _ refl (tally_tag_only check_numbers refl refl (in_read reverse n packed) mm ml))
 
-  pub tally_numbers : (r : Tallied) → TalliesStored reverse n packed mm ml r → Answers check_numbers (tally_says r)
+  pub tally_numbers : (r : Outcome (ℕ × ℕ)) → TalliesStored reverse n packed mm ml r → Answers check_numbers (tally_says r)
   tally_numbers r e = rw e (answers check_numbers _ refl tally_stored_only)
 
 -- ---- no set is too large: worked inputs of a reverse read, whose numbers are 0 and then each of the set in order

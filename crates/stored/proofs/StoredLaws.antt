@@ -1,5 +1,6 @@
 -- Calls that fill one row from a packed SEQ: refused by the checks, short of room, and done.
 -- Assumes nothing.
+use Rattle.std.specs.Prelude.{Ok, Err}
 use mathlib.Core.Path.{◌≡◌, refl, sym, ap, ◌∙◌}
 use Prim.Native.Nat.{ℕ, ◌≤◌, ◌<◌}
 use mathlib.Core.Bool.{Bool, false}
@@ -9,9 +10,8 @@ use lib.Dec.{leb}
 use borrow.Author.Tests.{le-leb, lt-leb}
 use Rattle.lent.proofs.Tests.{by-test}
 use Rattle.lent.specs.Filled.{leaves, over}
-use Rattle.lent.specs.Outcome.{Outcome, done, need, refusal, refused}
+use Rattle.lent.specs.Outcome.{Outcome, need, refusal}
 use Rattle.lent.specs.declared.Refusal.{Refusal}
-use Rattle.lent.specs.declared.Written.TheVariants.{Done, Refused}
 use Rattle.stored_rows.proofs.OrderLaws.{tested, tests_pass, tests_refuse}
 use Rattle.stored_rows.specs.Orders.{numbers_in_domain}
 use Rattle.stored.specs.PublicContracts.{Fills}
@@ -20,28 +20,28 @@ use Rattle.stored.specs.Reads.{bases_of, is_exact}
 -- ---- calls that fill one row
 
 module _ (n : ℕ) (packed row answer : List ℕ) where
-  pub fill_refused : (r : Refusal) → tested (leb n 16000) (is_exact n packed) ≡ refused r
-      → Fills (bases_of n packed (length row) answer) row (Refused r) row
+  pub fill_refused : (r : Refusal) → tested (leb n 16000) (is_exact n packed) ≡ Err r
+      → Fills (bases_of n packed (length row) answer) row (Err r) row
   unfolding leaves
-  fill_refused r e = rw (tests_refuse (leb n 16000) (is_exact n packed) (need (leb (length answer) (length row)) 12 (done answer)) r e) (refl, refl)
+  fill_refused r e = rw (tests_refuse (leb n 16000) (is_exact n packed) (need (leb (length answer) (length row)) 12 (Ok answer)) r e) (refl, refl)
 
-  pub fill_short : tested (leb n 16000) (is_exact n packed) ≡ done tt → length row < length answer
-      → Fills (bases_of n packed (length row) answer) row (Refused (refusal 12)) row
+  pub fill_short : tested (leb n 16000) (is_exact n packed) ≡ Ok tt → length row < length answer
+      → Fills (bases_of n packed (length row) answer) row (Err (refusal 12)) row
   unfolding leaves
   fill_short e l =
       rw (
-        tests_pass (leb n 16000) (is_exact n packed) (need (leb (length answer) (length row)) 12 (done answer)) e,
+        tests_pass (leb n 16000) (is_exact n packed) (need (leb (length answer) (length row)) 12 (Ok answer)) e,
         lt-leb (length answer) (length row) l,
       ) (refl, refl)
 
-  pub fill_done : (k : ℕ) (row' : List ℕ) → tested (leb n 16000) (is_exact n packed) ≡ done tt → length answer ≤ length row → length answer ≡ k
-      → row' ≡ over answer row → Fills (bases_of n packed (length row) answer) row (Done k) row'
+  pub fill_done : (k : ℕ) (row' : List ℕ) → tested (leb n 16000) (is_exact n packed) ≡ Ok tt → length answer ≤ length row → length answer ≡ k
+      → row' ≡ over answer row → Fills (bases_of n packed (length row) answer) row (Ok k) row'
   unfolding leaves
   fill_done k row' e l long f =
       rw (
-        tests_pass (leb n 16000) (is_exact n packed) (need (leb (length answer) (length row)) 12 (done answer)) e,
+        tests_pass (leb n 16000) (is_exact n packed) (need (leb (length answer) (length row)) 12 (Ok answer)) e,
         le-leb (length answer) (length row) l,
-      ) (ap done (sym long), f)
+      ) (ap Ok (sym long), f)
 
 -- without a tag the domain is that of the bases
 pub bases_domain_alone : (n : ℕ) → numbers_in_domain false n 0 0 ≡ leb n 16000

@@ -1,6 +1,7 @@
 -- The stored call is the plain call on the bases in read orientation: if the packed bytes are as many as the bases take, both give the same answer and leave
 -- the same columns, with places counted from the other end for a reverse read. Turning and unpacking by calls: what is left at the front of the rows.
 -- Assumes nothing.
+use Rattle.std.specs.Prelude.{Ok, Err}
 use mathlib.Core.Path.{◌≡◌, refl, sym, ap, ◌∙◌}
 use Prim.Native.Nat.{ℕ, ◌*◌, ◌/◌, ◌%◌}
 use native.Mathlib.Omega.{arith}
@@ -13,18 +14,14 @@ use borrow.Author.Tests.{eq-eqb, eqb-true}
 use Rattle.lent.proofs.Filled.{over_front}
 use Rattle.lent.proofs.Outcome.{done_inj, need_rest, need_test, on_done_inv}
 use Rattle.lent.specs.Filled.{leaves, over}
-use Rattle.lent.specs.Outcome.{Outcome, and_then, done, need, on_done, refused}
-use Rattle.lent.specs.declared.Written.TheVariants.{Done}
+use Rattle.lent.specs.Outcome.{Outcome, and_then, need, on_done}
 use Rattle.packed.proofs.Rows.{Bytes}
 use Rattle.packed.proofs.Turning.{length_in_read, pack_unpack_even, pack_unpack_odd, turn_twice, unpack_turn}
 use Rattle.packed.specs.Packed.{bytes_for, pack, reverse_complement, turn, unpack}
 use Rattle.packed.specs.Stored.{in_read}
 use Rattle.reading.specs.Calls.{calls_read, counts_of, group_column, listed_calls, read_calls, start_column}
 use Rattle.reading.specs.PublicContracts.{ChecksTag, ReadsCalls, Tallies}
-use Rattle.reading.specs.declared.Reading.{Reading}
-use Rattle.reading.specs.declared.Reading.TheVariants as reading
-use Rattle.reading.specs.declared.Tallied.{Tallied}
-use Rattle.reading.proofs.Unique.{reading_says_inj, tally_says_inj, calls_unique}
+use Rattle.reading.proofs.Unique.{tally_says_inj, calls_unique}
 use Rattle.samtags.specs.Reading.{in_domain, lists, read_tag, tally_tag}
 use Rattle.samtags.specs.Spots.{Listing}
 use Rattle.stored.proofs.ColumnLaws.{columns_stored}
@@ -63,12 +60,12 @@ module _ (reverse ml? : Bool) (n : ℕ) (packed text ml : List ℕ) (exact : len
   read_turned =
       let whole = as_is (read_tag ml? (in_read reverse n packed) text ml) in
       sym (ap (λ (o : Outcome (List Listing)). need (stated_in_domain ml? n text ml) 1 (need (is_exact n packed) 2 o)) whole)
-      ∙ then_turned (λ ls. done ls)
+      ∙ then_turned (λ ls. Ok ls)
       ∙ whole
     where
-      as_is : (o : Outcome (List Listing)) → and_then o (λ ls. done ls) ≡ o
-      as_is (refused r) = refl
-      as_is (done ls) = refl
+      as_is : (o : Outcome (List Listing)) → and_then o (λ ls. Ok ls) ≡ o
+      as_is (Err r) = refl
+      as_is (Ok ls) = refl
 
   pub listed_turned : (groups places starts : ℕ) → listed_stored reverse ml? n packed text ml groups places starts
       ≡ listed_calls ml? (in_read reverse n packed) text ml groups places starts
@@ -82,18 +79,18 @@ tally_turned reverse n packed text ml exact = then_turned reverse true n packed 
 
 -- ---- the calls: r is the answer of the stored call and s that of the plain call
 
-pub check_tag_turned : (reverse ml? : Bool) (n : ℕ) (packed mm ml : List ℕ) (r s : Reading) → length packed ≡ bytes_for n
+pub check_tag_turned : (reverse ml? : Bool) (n : ℕ) (packed mm ml : List ℕ) (r s : Outcome (ℕ × ℕ)) → length packed ≡ bytes_for n
     → ChecksStored reverse ml? n packed mm ml r → ChecksTag ml? (in_read reverse n packed) mm ml s → r ≡ s
 check_tag_turned reverse ml? n packed mm ml r s exact p q =
-    reading_says_inj r s (p ∙ ap (on_done counts_of) (read_turned reverse ml? n packed mm ml exact) ∙ sym q)
+    p ∙ ap (on_done counts_of) (read_turned reverse ml? n packed mm ml exact) ∙ sym q
 
-pub tally_call_turned : (reverse : Bool) (n : ℕ) (packed mm ml : List ℕ) (r s : Tallied) → length packed ≡ bytes_for n
+pub tally_call_turned : (reverse : Bool) (n : ℕ) (packed mm ml : List ℕ) (r s : Outcome (ℕ × ℕ)) → length packed ≡ bytes_for n
     → TalliesStored reverse n packed mm ml r → Tallies (in_read reverse n packed) mm ml s → r ≡ s
 tally_call_turned reverse n packed mm ml r s exact p q = tally_says_inj r s (p ∙ tally_turned reverse n packed mm ml exact ∙ sym q)
 
 -- The stored call leaves g₁, p₁ and s₁, and the plain call g₂, p₂ and s₂. The listed places are those of the plain call, in the same order, each counted from
 -- the other end if the read is reverse; the entries after the list are the same.
-pub read_calls_turned : (reverse ml? : Bool) (n : ℕ) (packed mm ml groups places starts : List ℕ) (r s : Reading) (g₁ g₂ p₁ p₂ s₁ s₂ : List ℕ)
+pub read_calls_turned : (reverse ml? : Bool) (n : ℕ) (packed mm ml groups places starts : List ℕ) (r s : Outcome (ℕ × ℕ)) (g₁ g₂ p₁ p₂ s₁ s₂ : List ℕ)
     → length packed ≡ bytes_for n
     → ReadsStored reverse ml? n packed mm ml groups places starts r g₁ p₁ s₁
     → ReadsCalls ml? (in_read reverse n packed) mm ml groups places starts s g₂ p₂ s₂
@@ -117,13 +114,13 @@ pub record Filled-from (n : ℕ) (packed answer : List ℕ) (k : ℕ) (row : Lis
   pub front_is : take k row ≡ answer
 
 filled_from : (n : ℕ) (packed row answer : List ℕ) (k : ℕ) (row' : List ℕ)
-    → Fills (bases_of n packed (length row) answer) row (Done k) row' → Filled-from n packed answer k row'
+    → Fills (bases_of n packed (length row) answer) row (Ok k) row' → Filled-from n packed answer k row'
 unfolding leaves
 filled_from n packed row answer k row' e =
     let i = on_done_inv length (bases_of n packed (length row) answer) k (sym e.0) in
     let two = need_rest (leb n 16000) 1 _ i.0 i.1 in
     let last = need_rest (is_exact n packed) 2 _ i.0 two in
-    let is : answer ≡ i.0 = done_inj (need_rest (leb (length answer) (length row)) 12 (done answer) i.0 last) in
+    let is : answer ≡ i.0 = done_inj (need_rest (leb (length answer) (length row)) 12 (Ok answer) i.0 last) in
     let long : k ≡ length answer = sym (ap length is ∙ i.2) in
     let left : row' ≡ over answer row =
     e.1 ∙ ap (λ (o : Outcome (List ℕ)). leaves (λ (l : List ℕ). l) o row) i.1 ∙ ap (λ (l : List ℕ). over l row) (sym is) in
@@ -133,20 +130,20 @@ filled_from n packed row answer k row' e =
       front_is = (λ j. take (long j) (left j)) ∙ over_front answer row;
     }
 
-pub turn_left : (n : ℕ) (packed out : List ℕ) (k : ℕ) (out' : List ℕ) → Turns n packed out (Done k) out' → Filled-from n packed (turn n packed) k out'
+pub turn_left : (n : ℕ) (packed out : List ℕ) (k : ℕ) (out' : List ℕ) → Turns n packed out (Ok k) out' → Filled-from n packed (turn n packed) k out'
 unfolding turn_stored
 turn_left n packed out k out' = filled_from n packed out (turn n packed) k out'
 
-pub unpack_left : (reverse : Bool) (n : ℕ) (packed seq : List ℕ) (k : ℕ) (seq' : List ℕ) → Unpacks reverse n packed seq (Done k) seq'
+pub unpack_left : (reverse : Bool) (n : ℕ) (packed seq : List ℕ) (k : ℕ) (seq' : List ℕ) → Unpacks reverse n packed seq (Ok k) seq'
     → Filled-from n packed (in_read reverse n packed) k seq'
 unfolding unpack_stored
 unpack_left reverse n packed seq k seq' = filled_from n packed seq (in_read reverse n packed) k seq'
 
 -- A packed SEQ that was turned by a call of `turn`, and is then turned again or unpacked. Bytes after the turned ones are not given to the second call.
-module _ (n : ℕ) (packed out : List ℕ) (k : ℕ) (out' : List ℕ) (turns : Turns n packed out (Done k) out') where
+module _ (n : ℕ) (packed out : List ℕ) (k : ℕ) (out' : List ℕ) (turns : Turns n packed out (Ok k) out') where
   -- Unpacked, it is the reverse complement of what a call of `unpack` gives of the bytes before, as a forward read.
-  pub unpack_of_turned : (seq seq₂ : List ℕ) (m m₂ : ℕ) (seq' seq₂' : List ℕ) → Unpacks false n (take k out') seq (Done m) seq'
-      → Unpacks false n packed seq₂ (Done m₂) seq₂' → take m seq' ≡ reverse_complement (take m₂ seq₂')
+  pub unpack_of_turned : (seq seq₂ : List ℕ) (m m₂ : ℕ) (seq' seq₂' : List ℕ) → Unpacks false n (take k out') seq (Ok m) seq'
+      → Unpacks false n packed seq₂ (Ok m₂) seq₂' → take m seq' ≡ reverse_complement (take m₂ seq₂')
   unfolding in_read
   unpack_of_turned seq seq₂ m m₂ seq' seq₂' a b =
       (unpack_left false n (take k out') seq m seq' a).front_is
@@ -155,8 +152,8 @@ module _ (n : ℕ) (packed out : List ℕ) (k : ℕ) (out' : List ℕ) (turns : 
       ∙ sym (ap reverse_complement (unpack_left false n packed seq₂ m₂ seq₂' b).front_is)
 
   -- Unpacked as a forward read, it is what a call of `unpack` gives of the bytes before, as a reverse read.
-  pub unpack_reverse_is_turned : (seq seq₂ : List ℕ) (m m₂ : ℕ) (seq' seq₂' : List ℕ) → Unpacks false n (take k out') seq (Done m) seq'
-      → Unpacks true n packed seq₂ (Done m₂) seq₂' → take m seq' ≡ take m₂ seq₂'
+  pub unpack_reverse_is_turned : (seq seq₂ : List ℕ) (m m₂ : ℕ) (seq' seq₂' : List ℕ) → Unpacks false n (take k out') seq (Ok m) seq'
+      → Unpacks true n packed seq₂ (Ok m₂) seq₂' → take m seq' ≡ take m₂ seq₂'
   unfolding in_read
   unpack_reverse_is_turned seq seq₂ m m₂ seq' seq₂' a b =
       (unpack_left false n (take k out') seq m seq' a).front_is
@@ -164,7 +161,7 @@ module _ (n : ℕ) (packed out : List ℕ) (k : ℕ) (out' : List ℕ) (turns : 
       ∙ unpack_turn n packed
       ∙ sym (unpack_left true n packed seq₂ m₂ seq₂' b).front_is
 
-  module _ (bytes : Bytes packed) (out₂ : List ℕ) (k₂ : ℕ) (out₂' : List ℕ) (again : Turns n (take k out') out₂ (Done k₂) out₂') where
+  module _ (bytes : Bytes packed) (out₂ : List ℕ) (k₂ : ℕ) (out₂' : List ℕ) (again : Turns n (take k out') out₂ (Ok k₂) out₂') where
     -- turned again, it is the bytes before, packed afresh
     pub turned_again : take k₂ out₂' ≡ pack (unpack n packed)
     turned_again =

@@ -1,9 +1,9 @@
 -- A stored read and its tag: packed bases with their stated number, and MM and ML in read orientation. Each call's outcome is the plain call's on the
 -- bases in read orientation, after the checks of the stated number: 1, then 2.
 -- Assumes nothing.
-use Rattle.std.specs.Prelude.{ℕ, Bool, true, cond, List, map, length, leb, eqb}
+use Rattle.std.specs.Prelude.{ℕ, Bool, true, cond, List, map, length, leb, eqb, Ok}
 use Rattle.lent.specs.Filled.{leaves}
-use Rattle.lent.specs.Outcome.{Outcome, done, need, on_done}
+use Rattle.lent.specs.Outcome.{Outcome, need, on_done}
 use Rattle.packed.specs.Packed.{bytes_for, turn}
 use Rattle.packed.specs.Stored.{in_read, mirrored}
 use Rattle.reading.specs.Calls.{CallsRead, calls_read, counts_of, group_column, listed_calls, place_column, start_column}
@@ -26,7 +26,7 @@ of_stored ml? n packed text ml o = need (stated_in_domain ml? n text ml) 1 (need
 -- ---- bases alone: 1, 2, last 12
 
 abbrev pub bases_of : ℕ → List ℕ → ℕ → List ℕ → Outcome (List ℕ)
-bases_of n packed room answer = need (leb n 16000) 1 (need (is_exact n packed) 2 (need (leb (length answer) room) 12 (done answer)))
+bases_of n packed room answer = need (leb n 16000) 1 (need (is_exact n packed) 2 (need (leb (length answer) room) 12 (Ok answer)))
 
 -- turned: the packed SEQ, reverse-complemented
 unfoldable pub turn_stored : ℕ → List ℕ → ℕ → Outcome (List ℕ)

@@ -1,24 +1,21 @@
 -- The stored call is the plain call on the bases in read orientation: if packed bytes are as many as their bases take, both give the same answer and
 -- leave the same bytes in every lent row.
 -- Assumes nothing.
+use Rattle.std.specs.Prelude.{Option}
 use mathlib.Core.Path.{◌≡◌, sym, ap, ◌∙◌}
 use Prim.Native.Nat.{ℕ}
 use mathlib.Core.Bool.{Bool, true, ◌&&◌}
 use mathlib.Core.List.{List}
-use mathlib.Core.Option.{Option}
 use lib.Dec.{leb}
 use lib.ListN.{length}
 use borrow.Author.Tests.{eq-eqb}
 use Rattle.editing.specs.Rewrote.{leaves_tag}
 use Rattle.lent.proofs.Tests.{and_true}
 use Rattle.lent.specs.Outcome.{Outcome}
-use Rattle.lent.specs.declared.Tagged.{Tagged}
 use Rattle.packed.proofs.Turning.{length_in_read}
 use Rattle.packed.specs.Packed.{bytes_for}
 use Rattle.packed.specs.Stored.{in_read, places_in_read, start_in_read}
 use Rattle.rewriting.specs.PublicContracts.{Drops, Masks, Trims}
-use Rattle.rewriting.specs.Starts.{start_says}
-use Rattle.rewriting.specs.declared.WindowStart.{WindowStart}
 use Rattle.samtags.specs.Edits.{cut_tag, drop_from_tag, mask_tag}
 use Rattle.samtags.specs.Reading.{in_domain}
 use Rattle.samtags.specs.Writing.{Tag}
@@ -62,7 +59,7 @@ module _ (reverse ml? : Bool) (text ml : List ℕ) (t m : ℕ) where
 
 -- ---- the calls: r, text₁ and values₁ are of the stored call, s, text₂ and values₂ of the plain call
 
-module _ (reverse ml? : Bool) (mm ml text values : List ℕ) (r s : Tagged) (text₁ text₂ values₁ values₂ : List ℕ) where
+module _ (reverse ml? : Bool) (mm ml text values : List ℕ) (r s : Outcome (ℕ × ℕ)) (text₁ text₂ values₁ values₂ : List ℕ) where
   pub drop_modifications_at_turned : (n : ℕ) (packed places : List ℕ) → length packed ≡ bytes_for n
       → DropsStored reverse ml? n packed places mm ml text values r text₁ values₁
       → Drops ml? (in_read reverse n packed) (places_in_read reverse n places) mm ml text values s text₂ values₂
@@ -80,12 +77,12 @@ module _ (reverse ml? : Bool) (mm ml text values : List ℕ) (r s : Tagged) (tex
         (p ∙ ap (λ (o : Outcome Tag). leaves_tag ml? o text values) (mask_turned reverse ml? mm ml (length text) (length values) n before k after x y)) q
 
     -- the plain call is given the start in read orientation
-    pub trim_clipped_modifications_turned : (start begin : WindowStart) → start_says begin ≡ start_in_read reverse n k (start_says start)
+    pub trim_clipped_modifications_turned : (start begin : Option ℕ) → begin ≡ start_in_read reverse n k start
         → TrimsStored reverse ml? start n before k after mm ml text values r text₁ values₁
         → Trims ml? begin (in_read reverse n before) (in_read reverse k after) mm ml text values s text₂ values₂
         → (r ≡ s) × (text₁ ≡ text₂) × (values₁ ≡ values₂)
     trim_clipped_modifications_turned start begin b p q =
         rewrote_unique _ r s text₁ text₂ values₁ values₂
         (p ∙ ap (λ (o : Outcome Tag). leaves_tag ml? o text values)
-        (cut_turned reverse ml? mm ml (length text) (length values) n before k after x y (start_says start)
+        (cut_turned reverse ml? mm ml (length text) (length values) n before k after x y start
         ∙ ap (λ (b : Option ℕ). cut_tag ml? b (in_read reverse n before) (in_read reverse k after) mm ml (length text) (length values)) (sym b))) q

@@ -1,7 +1,6 @@
 -- The three edits of a stored read's tag: the plain edit on the bases in read orientation, after the checks of the stated numbers: 1, then 2.
 -- Assumes nothing.
-use Rattle.std.specs.Prelude.{ℕ, Bool, ◌&&◌, List, leb}
-use Rattle.std.proofs.Math.Option.{Option}
+use Rattle.std.specs.Prelude.{ℕ, Bool, ◌&&◌, List, leb, Option}
 use Rattle.lent.specs.Outcome.{Outcome, need}
 use Rattle.packed.specs.Stored.{in_read, places_in_read, start_in_read}
 use Rattle.samtags.specs.Edits.{cut_tag, drop_from_tag, mask_tag}

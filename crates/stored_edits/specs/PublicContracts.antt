@@ -2,29 +2,26 @@
 -- cites it, and every theorem about the call uses it. `reverse` says whether the stored read is reverse, `ml?` whether the tag has an ML; `mm` and `ml`
 -- are the tag, `text` and `values` are the rows lent for the edited tag, and `text'` and `values'` are these rows after the call.
 -- Assumes nothing.
-use Rattle.std.specs.Prelude.{◌≡◌, ℕ, Bool, List, length}
+use Rattle.lent.specs.Outcome.{Outcome}
+use Rattle.std.specs.Prelude.{◌≡◌, ℕ, Bool, List, length, Option}
 use Rattle.editing.specs.Rewrote.{leaves_tag, rewrote}
-use Rattle.lent.specs.Outcome.{tag_says}
-use Rattle.lent.specs.declared.Tagged.{Tagged}
-use Rattle.rewriting.specs.Starts.{start_says}
-use Rattle.rewriting.specs.declared.WindowStart.{WindowStart}
 use Rattle.stored_edits.specs.Edits.{cut_stored, drop_stored, mask_stored}
 
 -- `drop_masked_modifications`: the stored SEQ `before` of n bases was masked to `after` of k bases
-abbrev pub MasksStored : Bool → Bool → ℕ → List ℕ → ℕ → List ℕ → List ℕ → List ℕ → List ℕ → List ℕ → Tagged → List ℕ → List ℕ → Type 0
+abbrev pub MasksStored : Bool → Bool → ℕ → List ℕ → ℕ → List ℕ → List ℕ → List ℕ → List ℕ → List ℕ → Outcome (ℕ × ℕ) → List ℕ → List ℕ → Type 0
 MasksStored reverse ml? n before k after mm ml text values r text' values' =
-    rewrote (tag_says r) text' values'
+    rewrote r text' values'
     ≡ leaves_tag ml? (mask_stored reverse ml? n before k after mm ml (length text) (length values)) text values
 
 -- `drop_modifications_at`: the calls at the places are dropped, and SEQ stays
-abbrev pub DropsStored : Bool → Bool → ℕ → List ℕ → List ℕ → List ℕ → List ℕ → List ℕ → List ℕ → Tagged → List ℕ → List ℕ → Type 0
+abbrev pub DropsStored : Bool → Bool → ℕ → List ℕ → List ℕ → List ℕ → List ℕ → List ℕ → List ℕ → Outcome (ℕ × ℕ) → List ℕ → List ℕ → Type 0
 DropsStored reverse ml? n packed places mm ml text values r text' values' =
-    rewrote (tag_says r) text' values'
+    rewrote r text' values'
     ≡ leaves_tag ml? (drop_stored reverse ml? n packed places mm ml (length text) (length values)) text values
 
 -- `trim_clipped_modifications`: the stored SEQ `before` of n bases was cut to `after` of k bases, which begins at `start`
 abbrev pub TrimsStored :
-    Bool → Bool → WindowStart → ℕ → List ℕ → ℕ → List ℕ → List ℕ → List ℕ → List ℕ → List ℕ → Tagged → List ℕ → List ℕ → Type 0
+    Bool → Bool → Option ℕ → ℕ → List ℕ → ℕ → List ℕ → List ℕ → List ℕ → List ℕ → List ℕ → Outcome (ℕ × ℕ) → List ℕ → List ℕ → Type 0
 TrimsStored reverse ml? start n before k after mm ml text values r text' values' =
-    rewrote (tag_says r) text' values'
-    ≡ leaves_tag ml? (cut_stored reverse ml? (start_says start) n before k after mm ml (length text) (length values)) text values
+    rewrote r text' values'
+    ≡ leaves_tag ml? (cut_stored reverse ml? start n before k after mm ml (length text) (length values)) text values

@@ -1,8 +1,8 @@
 // Rewrites the tag of a stored read after its SEQ was masked or cut, or without the calls at some places: the edits of `rewriting` on packed SEQ.
 //
-// A stored read is its packed bytes, its stated number of bases, and whether it is reverse; `stored` says how it is counted. Each call answers 1 by the
-// stated numbers and the lengths of text and ML, then 2 if packed bytes are not as many as their bases take, and then as the plain edit does on the
-// bases in read orientation. The tag is in read orientation, as is the edited one. No public function has a `requires`.
+// A stored read is its packed bytes, its stated number of bases, and whether it is reverse; `stored` says how it is counted. Each call answers Err with 1
+// by the stated numbers and the lengths of text and ML, then 2 if packed bytes are not as many as their bases take, and then as the plain edit does on
+// the bases in read orientation. The tag is in read orientation, as is the edited one. No public function has a `requires`.
 #![tactic(auto)]
 
 ghost use Rattle.std.specs.Prelude.{◌≡◌, true, ◌&&◌, ◌≤◌, leb, length};
@@ -13,9 +13,7 @@ ghost use Rattle.rewriting.specs.PublicContracts.{Drops, Masks, Trims};
 ghost use Rattle.samtags.specs.Reading.{in_domain};
 ghost use Rattle.stored_edits.specs.PublicContracts.{DropsStored, MasksStored, TrimsStored};
 
-use lent::Tagged;
-use rewriting::WindowStart;
-use stepping::order::Order;
+use lent::Refusal;
 
 // Whether two numbers of bases fit into the short rows.
 fn both_few(n: usize, k: usize) -> bool
@@ -41,7 +39,7 @@ fn mask_with(
     second: &mut [u8],
     mm_out: &mut [u8],
     ml_out: &mut [u8],
-) -> Tagged
+) -> Result<(usize, usize), Refusal>
     requires { (n ≤ 16000) × (bytes_for n ≤ length before.now) × (n ≤ length first.old)
         × (k ≤ 16000) × (bytes_for k ≤ length after.now) × (k ≤ length second.old) }
     ensures { Masks has_ml (in_read reverse n before.now) (in_read reverse k after.now)
@@ -61,7 +59,7 @@ fn mask_with(
 }
 
 // The stored SEQ was masked: `after` has as many bases as `before`. A base that `after` no longer holds leaves its group: its call is dropped, and it
-// counts in no later skip. 2 also if the two differ in their number of bases.
+// counts in no later skip. Err with 2 also if the two differ in their number of bases.
 pub fn drop_masked_modifications(
     before: &[u8],
     before_bases: usize,
@@ -73,11 +71,11 @@ pub fn drop_masked_modifications(
     has_ml: bool,
     mm_out: &mut [u8],
     ml_out: &mut [u8],
-) -> Tagged
+) -> Result<(usize, usize), Refusal>
     ensures { MasksStored reverse has_ml before_bases before.now after_bases after.now
         mm.now ml.now mm_out.old ml_out.old result mm_out.new ml_out.new }
 {
-    let found = stored_rows::order::two_in_order(
+    stored_rows::order::two_in_order(
         before.len(),
         before_bases,
         after.len(),
@@ -85,10 +83,7 @@ pub fn drop_masked_modifications(
         mm.len(),
         ml.len(),
         has_ml,
-    );
-    let Order::Kept = found else {
-        return Tagged::Refused(found.refusal());
-    };
+    )?;
     let few = both_few(before_bases, after_bases);
     if few {
         let mut first = changing::few_marks();
@@ -139,7 +134,7 @@ fn drop_with(
     marks: &mut [u8],
     mm_out: &mut [u8],
     ml_out: &mut [u8],
-) -> Tagged
+) -> Result<(usize, usize), Refusal>
     requires { (bytes_for n ≤ length packed.now) × (n ≤ length row.old)
         × (in_domain has_ml (in_read reverse n packed.now) mm.now ml.now ≡ true)
         × (n ≤ length marks.old) × Unmarked (length marks.old) marks.old }
@@ -173,20 +168,11 @@ pub fn drop_modifications_at(
     has_ml: bool,
     mm_out: &mut [u8],
     ml_out: &mut [u8],
-) -> Tagged
+) -> Result<(usize, usize), Refusal>
     ensures { DropsStored reverse has_ml bases packed.now places.now mm.now ml.now
         mm_out.old ml_out.old result mm_out.new ml_out.new }
 {
-    let found = stored_rows::order::stored_in_order(
-        packed.len(),
-        bases,
-        mm.len(),
-        ml.len(),
-        has_ml,
-    );
-    let Order::Kept = found else {
-        return Tagged::Refused(found.refusal());
-    };
+    stored_rows::order::stored_in_order(packed.len(), bases, mm.len(), ml.len(), has_ml)?;
     if bases <= 1024 {
         let mut row = changing::few_marks();
         let mut marks = changing::few_marks();
@@ -208,7 +194,7 @@ fn trim_with(
     after: &[u8],
     k: usize,
     reverse: bool,
-    start: WindowStart,
+    start: Option<usize>,
     mm: &[u8],
     ml: &[u8],
     has_ml: bool,
@@ -216,7 +202,7 @@ fn trim_with(
     second: &mut [u8],
     mm_out: &mut [u8],
     ml_out: &mut [u8],
-) -> Tagged
+) -> Result<(usize, usize), Refusal>
     requires { (n ≤ 16000) × (bytes_for n ≤ length before.now) × (n ≤ length first.old)
         × (k ≤ 16000) × (bytes_for k ≤ length after.now) × (k ≤ length second.old) }
     ensures { Trims has_ml start (in_read reverse n before.now) (in_read reverse k after.now)
@@ -237,25 +223,25 @@ fn trim_with(
 }
 
 // The stored SEQ was cut: `after` is a window of `before`, in which a base may be masked by N. The start is counted from the stored front. Calls outside
-// the window are dropped, and so are calls on masked bases, except in a group on any base ('N'). The two are compared by their bases: 21 if these are the
-// same, 11 if `after` is no window of `before` or its start is unknown.
+// the window are dropped, and so are calls on masked bases, except in a group on any base ('N'). The two are compared by their bases: Err with 21 if
+// these are the same, 11 if `after` is no window of `before` or its start is unknown.
 pub fn trim_clipped_modifications(
     before: &[u8],
     before_bases: usize,
     after: &[u8],
     after_bases: usize,
     reverse: bool,
-    start: WindowStart,
+    start: Option<usize>,
     mm: &[u8],
     ml: &[u8],
     has_ml: bool,
     mm_out: &mut [u8],
     ml_out: &mut [u8],
-) -> Tagged
+) -> Result<(usize, usize), Refusal>
     ensures { TrimsStored reverse has_ml start before_bases before.now after_bases after.now
         mm.now ml.now mm_out.old ml_out.old result mm_out.new ml_out.new }
 {
-    let found = stored_rows::order::two_in_order(
+    stored_rows::order::two_in_order(
         before.len(),
         before_bases,
         after.len(),
@@ -263,10 +249,7 @@ pub fn trim_clipped_modifications(
         mm.len(),
         ml.len(),
         has_ml,
-    );
-    let Order::Kept = found else {
-        return Tagged::Refused(found.refusal());
-    };
+    )?;
     let begin = stored_rows::start_in_read(start, reverse, before_bases, after_bases);
     let few = both_few(before_bases, after_bases);
     if few {

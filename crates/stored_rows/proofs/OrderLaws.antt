@@ -1,5 +1,6 @@
 -- The checks of a stored read's lengths: what passes, and what is refused whatever would follow.
 -- Assumes nothing.
+use Rattle.std.specs.Prelude.{Ok, Err}
 use mathlib.Core.Path.{◌≡◌, refl}
 use Prim.Native.Nat.{ℕ, ◌≤◌}
 use native.Mathlib.Omega.{arith}
@@ -8,7 +9,7 @@ use lib.Dec.{eqb, leb}
 use borrow.Author.Tests.{eqb-true, le-leb, leb-true}
 use Rattle.lent.proofs.Outcome.{need_rest, need_test}
 use Rattle.lent.proofs.Tests.{and_true_l, and_true_r, test_ext}
-use Rattle.lent.specs.Outcome.{Outcome, done, need, refuse, refused}
+use Rattle.lent.specs.Outcome.{Outcome, need, refusal, refuse}
 use Rattle.lent.specs.declared.Refusal.{Refusal}
 use Rattle.packed.specs.Packed.{bytes_for}
 use Rattle.stepping.proofs.OrderLaws.{values_leb}
@@ -21,20 +22,20 @@ same_leb a b c d f g =
 
 -- the result of two tests alone, for 1 and then for 2
 abbrev pub tested : Bool → Bool → Outcome (Unit {0})
-tested d t = need d 1 (need t 2 (done tt))
+tested d t = need d 1 (need t 2 (Ok tt))
 
 module _ {A : Type 0} (d t : Bool) (o : Outcome A) where
   -- they fail, and whatever would follow is refused so
-  pub tests_refuse : (r : Refusal) → tested d t ≡ refused r → need d 1 (need t 2 o) ≡ refused r
+  pub tests_refuse : (r : Refusal) → tested d t ≡ Err r → need d 1 (need t 2 o) ≡ Err r
   tests_refuse r e = go d t e
     where
-      go : (d t : Bool) → tested d t ≡ refused r → need d 1 (need t 2 o) ≡ refused r
+      go : (d t : Bool) → tested d t ≡ Err r → need d 1 (need t 2 o) ≡ Err r
       go true true e = let z : ◌≡◌ {A = ℕ} 0 1 = cc in absurd (omega arith)
-      go true false e = let s : ◌≡◌ {A = Refusal} (record { 0 = 2 }) r = cc in rw s
-      go false b e = let s : ◌≡◌ {A = Refusal} (record { 0 = 1 }) r = cc in rw s
+      go true false e = let s : ◌≡◌ {A = Refusal} (refusal 2) r = cc in rw s
+      go false b e = let s : ◌≡◌ {A = Refusal} (refusal 1) r = cc in rw s
 
   -- they pass
-  pub tests_pass : tested d t ≡ done tt → need d 1 (need t 2 o) ≡ o
+  pub tests_pass : tested d t ≡ Ok tt → need d 1 (need t 2 o) ≡ o
   tests_pass e = rw (need_test d 1 _ tt e, need_test t 2 _ tt (need_rest d 1 _ tt e))
 
 -- a plain call asks the domain's test again
@@ -54,16 +55,16 @@ module _ (d t k u : Bool) where
       go true = refl
       go false = refl
 
-  pub two_first : (r : Refusal) → k ≡ true → tested d t ≡ refused r → tested (d && k) (t && u) ≡ refused r
+  pub two_first : (r : Refusal) → k ≡ true → tested d t ≡ Err r → tested (d && k) (t && u) ≡ Err r
   two_first r e f = rw e (go d t f)
     where
-      go : (d t : Bool) → tested d t ≡ refused r → tested (d && true) (t && u) ≡ refused r
+      go : (d t : Bool) → tested d t ≡ Err r → tested (d && true) (t && u) ≡ Err r
       go true true f = let z : ◌≡◌ {A = ℕ} 0 1 = cc in absurd (omega arith)
       go true false f = f
       go false true f = f
       go false false f = f
 
-  pub two_second : k ≡ true → tested d t ≡ done tt → tested (d && k) (t && u) ≡ need u 2 (done tt)
+  pub two_second : k ≡ true → tested d t ≡ Ok tt → tested (d && k) (t && u) ≡ need u 2 (Ok tt)
   two_second e f = rw (e, need_test d 1 _ tt f, need_test t 2 _ tt (need_rest d 1 _ tt f))
 
 -- what a stored read has whose lengths passed
@@ -73,7 +74,7 @@ pub record In-stored (ml? : Bool) (packed bases mm ml : ℕ) : Type 0 where
   pub ml_domain : cond ml? ml 0 ≤ 65536
   pub bytes_exact : packed ≡ bytes_for bases
 
-pub stored_passed : (ml? : Bool) (packed bases mm ml : ℕ) → tested (numbers_in_domain ml? bases mm ml) (eqb packed (bytes_for bases)) ≡ done tt
+pub stored_passed : (ml? : Bool) (packed bases mm ml : ℕ) → tested (numbers_in_domain ml? bases mm ml) (eqb packed (bytes_for bases)) ≡ Ok tt
     → In-stored ml? packed bases mm ml
 stored_passed ml? packed bases mm ml e =
     let d = need_test (numbers_in_domain ml? bases mm ml) 1 _ tt e in

@@ -1,11 +1,11 @@
 -- Places and starts counted in a stored read: the mirror of a list of places, one place after the other, and the mirror of a window's start.
 -- Assumes nothing.
+use Rattle.std.specs.Prelude.{None, Some}
 use mathlib.Core.Path.{◌≡◌}
 use Prim.Native.Nat.{ℕ, ◌+◌, ◌-◌, ◌≤◌, ◌<◌}
 use native.Mathlib.Omega.{arith}
 use mathlib.Core.Bool.{true}
 use mathlib.Core.List.{List, [], ◌∷◌}
-use mathlib.Core.Option.{none, some}
 use lib.ListN.{set}
 use lib.Dec.{ltb}
 use borrow.Author.Tests.{le-leb, le-ltb, lt-leb, lt-ltb}
@@ -30,10 +30,10 @@ module _ (b n p : ℕ) (row : List ℕ) where
 -- ---- starts
 
 module _ (n k s : ℕ) where
-  pub start_past : n < s + k → start_mirrored n k (some s) ≡ none
+  pub start_past : n < s + k → start_mirrored n k (Some s) ≡ None
   start_past l = rw (lt-leb (s + k) n l)
 
-  pub start_inside : s + k ≤ n → start_mirrored n k (some s) ≡ some (n - k - s)
+  pub start_inside : s + k ≤ n → start_mirrored n k (Some s) ≡ Some (n - k - s)
   start_inside l =
       let e : n - (s + k) ≡ n - k - s = omega arith in
       rw (le-leb (s + k) n l, e)

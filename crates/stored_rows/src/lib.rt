@@ -9,9 +9,6 @@ pub mod order;
 ghost use Rattle.std.specs.Prelude.{◌≡◌, true, [], ◌∷◌, map, ◌-◌, ◌≤◌};
 ghost use Rattle.changing.specs.Windows.{stored_at};
 ghost use Rattle.packed.specs.Stored.{mirrored, places_in_read, start_in_read};
-ghost use Rattle.rewriting.specs.Starts.{start_says};
-
-use rewriting::WindowStart;
 
 // Writes a byte at the mirror of a place. Places past the end do nothing.
 fn put_mirrored(row: &mut [u8], n: usize, place: usize, b: u8)
@@ -27,10 +24,8 @@ fn put_mirrored(row: &mut [u8], n: usize, place: usize, b: u8)
 fn mark_mirrored(places: &[u32], n: usize, row: &mut [u8], b: u8)
     ensures { row.new ≡ stored_at b (places_in_read true n places.now) row.old }
 {
-    let mut i = 0;
-    while i < places.len() {
-        put_mirrored(row, n, places[i] as usize, b);
-        i += 1;
+    for &place in places {
+        put_mirrored(row, n, place as usize, b);
     }
 }
 
@@ -61,32 +56,30 @@ pub fn mirror_all(places: &mut [u32], n: usize)
     ensures { places.new ≡ map (mirrored n) places.old }
 {
     let bases = n as u32;
-    let mut i = 0;
-    while i < places.len() {
-        places[i] = mirror(bases, places[i]);
-        i += 1;
+    for place in places.iter_mut() {
+        *place = mirror(bases, *place);
     }
 }
 
 // The start of a window of k bases, counted from the other end; unknown if the window does not fit.
-fn start_mirrored(start: WindowStart, n: usize, k: usize) -> WindowStart
-    ensures { start_says result ≡ start_in_read true n k (start_says start) }
+fn start_mirrored(start: Option<usize>, n: usize, k: usize) -> Option<usize>
+    ensures { result ≡ start_in_read true n k start }
 {
-    let WindowStart::Known(s) = start else {
-        return WindowStart::Unknown;
+    let Some(s) = start else {
+        return None;
     };
     if n < k {
-        return WindowStart::Unknown;
+        return None;
     }
     if n - k < s {
-        return WindowStart::Unknown;
+        return None;
     }
-    WindowStart::Known(n - k - s)
+    Some(n - k - s)
 }
 
 // The start of a window of k bases in a stored read of n bases, in read orientation.
-pub fn start_in_read(start: WindowStart, reverse: bool, n: usize, k: usize) -> WindowStart
-    ensures { start_says result ≡ start_in_read reverse n k (start_says start) }
+pub fn start_in_read(start: Option<usize>, reverse: bool, n: usize, k: usize) -> Option<usize>
+    ensures { result ≡ start_in_read reverse n k start }
 {
     if reverse {
         return start_mirrored(start, n, k);

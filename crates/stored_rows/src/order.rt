@@ -1,12 +1,11 @@
-// Whether the lengths of a stored read and its tag are in order: 1 if one is outside the domain, 2 if the packed bytes are not as many as the bases take.
-ghost use Rattle.std.specs.Prelude.{◌≡◌, ◌&&◌, ℕ, ◌≤◌, leb, eqb};
-ghost use Rattle.lent.specs.Outcome.{need, done};
+// Whether the lengths of a stored read and its tag are in order: Err with 1 if one is outside the domain, with 2 if the packed bytes are not as many as
+// the bases take.
+ghost use Rattle.std.specs.Prelude.{◌≡◌, ◌&&◌, ℕ, ◌≤◌, leb, eqb, Ok};
+ghost use Rattle.lent.specs.Outcome.{need};
 ghost use Rattle.packed.specs.Packed.{bytes_for};
-ghost use Rattle.stepping.specs.Steps.{order_says};
 ghost use Rattle.stored_rows.specs.Orders.{numbers_in_domain};
 
 use lent::Refusal;
-use stepping::order::Order;
 
 // The number of bytes that the bases take.
 pub fn bytes_for(bases: usize) -> usize
@@ -27,23 +26,29 @@ pub fn bases_in(bytes: usize) -> usize
 }
 
 // Checks a stored read of `bases` bases in `packed` bytes, with a text of `mm` bytes and `ml` values.
-pub fn stored_in_order(packed: usize, bases: usize, mm: usize, ml: usize, has_ml: bool) -> Order
-    ensures { order_says result ≡ need (numbers_in_domain has_ml bases mm ml) 1 (need (eqb packed (bytes_for bases)) 2 (done tt)) }
+pub fn stored_in_order(
+    packed: usize,
+    bases: usize,
+    mm: usize,
+    ml: usize,
+    has_ml: bool,
+) -> Result<(), Refusal>
+    ensures { result ≡ need (numbers_in_domain has_ml bases mm ml) 1 (need (eqb packed (bytes_for bases)) 2 (Ok tt)) }
 {
     let taken = scanning::values_taken(ml, has_ml);
     if 16000 < bases {
-        return Order::Refused(Refusal(1));
+        return Err(Refusal::TooLong);
     }
     if 65536 < mm {
-        return Order::Refused(Refusal(1));
+        return Err(Refusal::TooLong);
     }
     if 65536 < taken {
-        return Order::Refused(Refusal(1));
+        return Err(Refusal::TooLong);
     }
     if packed != bytes_for(bases) {
-        return Order::Refused(Refusal(2));
+        return Err(Refusal::LengthsDisagree);
     }
-    Order::Kept
+    Ok(())
 }
 
 // Checks two stored reads, before and after an edit, with the tag of the first.
@@ -55,19 +60,16 @@ pub fn two_in_order(
     mm: usize,
     ml: usize,
     has_ml: bool,
-) -> Order
-    ensures { order_says result ≡ need (numbers_in_domain has_ml before_bases mm ml && leb after_bases 16000) 1
-        (need (eqb before (bytes_for before_bases) && eqb after (bytes_for after_bases)) 2 (done tt)) }
+) -> Result<(), Refusal>
+    ensures { result ≡ need (numbers_in_domain has_ml before_bases mm ml && leb after_bases 16000) 1
+        (need (eqb before (bytes_for before_bases) && eqb after (bytes_for after_bases)) 2 (Ok tt)) }
 {
     if 16000 < after_bases {
-        return Order::Refused(Refusal(1));
+        return Err(Refusal::TooLong);
     }
-    let found = stored_in_order(before, before_bases, mm, ml, has_ml);
-    let Order::Kept = found else {
-        return Order::Refused(found.refusal());
-    };
+    stored_in_order(before, before_bases, mm, ml, has_ml)?;
     if after != bytes_for(after_bases) {
-        return Order::Refused(Refusal(2));
+        return Err(Refusal::LengthsDisagree);
     }
-    Order::Kept
+    Ok(())
 }

@@ -1,6 +1,7 @@
 -- Editing a stored read is turning it into read orientation, editing it as the plain session does, and turning back. This is a law between the two codes'
 -- contracts: a call of each, on rows that hold the same read.
 -- Assumes nothing.
+use Rattle.std.specs.Prelude.{Ok, Err}
 use mathlib.Core.Path.{◌≡◌, sym, ap, ◌∙◌, subst}
 use Prim.Native.Nat.{ℕ}
 use native.Mathlib.Omega.{arith}
@@ -10,7 +11,7 @@ use lib.ListN.{take}
 use lib.Seq.{take_all}
 use Rattle.lent.specs.Answers.{is_done}
 use Rattle.lent.specs.Filled.{over}
-use Rattle.lent.specs.Outcome.{Outcome, and_then, done, number_of, refused}
+use Rattle.lent.specs.Outcome.{Outcome, and_then, number_of}
 use Rattle.packed.proofs.Turning.{length_in_read}
 use Rattle.packed.specs.Stored.{as_stored, in_read, step_in_read}
 use Rattle.samtags.proofs.Memory as memory
@@ -94,13 +95,13 @@ pub record Turned-back (reverse ml? : Bool) (w : Rows) (h : Held) (c : Call) : T
 
 back_if_done : (reverse ml? : Bool) (w : Rows) (c : Call) (o : Outcome Held) → is_done (step_says c.answered) ≡ true
     → came (step_says c.answered) c.seq c.mm c.ml
-    ≡ leaves_memory (in_memory w) (and_then o (λ s. done (stored_back reverse ml? (in_memory w) s)))
+    ≡ leaves_memory (in_memory w) (and_then o (λ s. Ok (stored_back reverse ml? (in_memory w) s)))
     → Turned-back reverse ml? w (after_step (read_in reverse w) o) c
 unfolding leaves_memory stored_back
-back_if_done reverse ml? w c (refused r) d e =
+back_if_done reverse ml? w c (Err r) d e =
     let no : false ≡ true = sym (ap (λ (x : Came). is_done x.answer) e) ∙ d in
     let z : ◌≡◌ {A = ℕ} 0 1 = cc in absurd (omega arith)
-back_if_done reverse ml? w c (done s) d e = record {
+back_if_done reverse ml? w c (Ok s) d e = record {
   seq_back = ap (λ (x : Came). x.seq) e;
   text_back = ap (λ (x : Came). x.text) e;
   ml_back = ap (λ (x : Came). x.ml) e;

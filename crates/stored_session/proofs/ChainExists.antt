@@ -7,7 +7,6 @@ use mathlib.Core.List.{List, [], ◌∷◌}
 use Rattle.samtags.specs.Session.{Step}
 use Rattle.session.specs.Chain.{left_by, steps_of}
 use Rattle.session.specs.PublicContracts.{Call, Rows, in_memory}
-use Rattle.stepping.specs.declared.Stepped.TheVariants as stepped
 use Rattle.stored_session.specs.Chain.{ChainStored}
 use Rattle.stored_session.specs.PublicContracts.{MeetsStored}
 use Rattle.stored_steps.specs.Steps.{step_stored}

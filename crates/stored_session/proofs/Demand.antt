@@ -2,17 +2,17 @@
 -- finds the rows and the lengths as the previous call left them: what the rows hold at the end, in read orientation, and all the answers are what the
 -- session means. With and without ML, for a forward and for a reverse read.
 -- Assumes nothing.
+use Rattle.std.specs.Prelude.{Ok}
 use mathlib.Core.Path.{◌≡◌, refl, sym, ap, ◌∙◌}
 use Prim.Native.Nat.{ℕ, ◌<◌}
 use native.Mathlib.Omega.{arith}
 use mathlib.Core.Bool.{Bool}
 use mathlib.Core.List.{List, [], ◌∷◌, map}
 use Rattle.lent.proofs.Outcome.{on_done_inv}
-use Rattle.lent.specs.Outcome.{done, number_of}
+use Rattle.lent.specs.Outcome.{number_of}
 use Rattle.packed.proofs.Rows.{Bytes}
 use Rattle.packed.specs.Stored.{step_in_read}
 use Rattle.reading.specs.Calls.{counts_of}
-use Rattle.reading.specs.declared.Reading.TheVariants as reading
 use Rattle.samtags.proofs.Memory.{unchanged}
 use Rattle.samtags.proofs.SessionMeaning.{refused_steps_lem, session_meaning}
 use Rattle.samtags.specs.Meaning.{after_steps, answers_to, is_refusal, left_of_listing, left_of_seq, opening, refused_steps}
@@ -77,13 +77,13 @@ pub record As-meant (reverse ml? : Bool) (w : Rows) (ls : List Listing) (cs : Li
       ≡ left_of_seq (after_steps ls (steps_in_read reverse w cs) (opening (read_in reverse w).seq)) (read_in reverse w).seq
   pub lists_then :
       (let end = read_in reverse (at_end w cs) in lists ml? end.seq end.text end.ml)
-      ≡ done (map (left_of_listing (after_steps ls (steps_in_read reverse w cs) (opening (read_in reverse w).seq))) ls)
+      ≡ Ok (map (left_of_listing (after_steps ls (steps_in_read reverse w cs) (opening (read_in reverse w).seq))) ls)
   pub answers_then : numbers_of cs ≡ answers_to ls (steps_in_read reverse w cs) (opening (read_in reverse w).seq)
   -- the refused steps are exactly the drops of a listed call under a header that does not end in '?', and the cuts of more than SEQ holds
   pub refused_exactly : map is_refusal (numbers_of cs) ≡ refused_steps ls (steps_in_read reverse w cs) (opening (read_in reverse w).seq)
 
 module _ (reverse ml? : Bool) (w : Rows) (bytes : Bytes w.seq) where
-  pub as_meant : (ls : List Listing) → open_stored reverse ml? (in_memory w) ≡ done ls → (cs : List Call) → ChainStored reverse ml? w cs
+  pub as_meant : (ls : List Listing) → open_stored reverse ml? (in_memory w) ≡ Ok ls → (cs : List Call) → ChainStored reverse ml? w cs
       → As-meant reverse ml? w ls cs
   as_meant ls e cs k =
       let o = opened_in_order reverse ml? (in_memory w) ls bytes e in
@@ -98,10 +98,10 @@ module _ (reverse ml? : Bool) (w : Rows) (bytes : Bytes w.seq) where
         refused_exactly = ap (map is_refusal) answered ∙ refused_steps_lem ls ts (opening (read_in reverse w).seq);
       }
 
-  -- Demand 3: if `open` answered Done, the tag lists as many groups and calls as it said. Whatever calls follow, the session results in what it
+  -- Demand 3: if `open` answered Ok, the tag lists as many groups and calls as it said. Whatever calls follow, the session results in what it
   -- means.
-  pub session_as_meant : (groups calls : ℕ) → OpensStored reverse ml? w (reading.Done groups calls) → (cs : List Call) → ChainStored reverse ml? w cs
-      → (ls : List Listing) × (lists ml? (read_in reverse w).seq (read_in reverse w).text (read_in reverse w).ml ≡ done ls)
+  pub session_as_meant : (groups calls : ℕ) → OpensStored reverse ml? w (Ok (groups, calls)) → (cs : List Call) → ChainStored reverse ml? w cs
+      → (ls : List Listing) × (lists ml? (read_in reverse w).seq (read_in reverse w).text (read_in reverse w).ml ≡ Ok ls)
       × (◌≡◌ {A = ℕ × ℕ} (counts_of ls) (groups, calls)) × As-meant reverse ml? w ls cs
   session_as_meant groups calls opened cs k =
       let (ls, e, counted) = on_done_inv counts_of (open_stored reverse ml? (in_memory w)) (groups, calls) (sym opened) in

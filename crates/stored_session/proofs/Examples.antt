@@ -1,10 +1,11 @@
 -- Steps on a stored read, by computation: places that are none, a cut off the stored front, the spare half, and steps that go on after a cut.
 -- Assumes nothing.
+use Rattle.std.specs.Prelude.{Ok}
 use mathlib.Core.Path.{◌≡◌, refl}
 use Prim.Native.Nat.{ℕ}
 use mathlib.Core.Bool.{true, false}
 use mathlib.Core.List.{List, [], ◌∷◌}
-use Rattle.lent.specs.Outcome.{done, number_of, refuse}
+use Rattle.lent.specs.Outcome.{number_of, refuse}
 use Rattle.samtags.specs.Bytes.{ascii}
 use Rattle.samtags.specs.Session.{Lengths, Memory, Step, after_step, cut, drop_calls, mask}
 use Rattle.stepping.specs.Steps.{Came, came, leaves_memory}
@@ -32,11 +33,11 @@ five_c_plain = rows (0x44 ∷ 0x44 ∷ 0x40 ∷ []) (ascii "C+m,0;") (200 ∷ []
 
 -- Place 7 of five bases is none: the step is done, and nothing changes. The first C of the read is at place 4 of the stored read.
 pub place_that_is_none :
-    (left (drop_calls (7 ∷ [])) five_c ≡ came (done (held 5 7 1)) five_c.seq five_c.text five_c.ml)
-    × (left (drop_calls (7 ∷ [])) five_c_plain ≡ came (done (held 5 6 1)) five_c_plain.seq five_c_plain.text five_c_plain.ml)
-    × (left (mask (7 ∷ [])) five_c ≡ came (done (held 5 7 1)) five_c.seq five_c.text five_c.ml)
-    × (left (drop_calls (0 ∷ [])) five_c ≡ came (done (held 5 7 1)) five_c.seq five_c.text five_c.ml)
-    × (left (drop_calls (4 ∷ [])) five_c ≡ came (done (held 5 5 0)) five_c.seq (ascii "C+m?;0;") five_c.ml)
+    (left (drop_calls (7 ∷ [])) five_c ≡ came (Ok (held 5 7 1)) five_c.seq five_c.text five_c.ml)
+    × (left (drop_calls (7 ∷ [])) five_c_plain ≡ came (Ok (held 5 6 1)) five_c_plain.seq five_c_plain.text five_c_plain.ml)
+    × (left (mask (7 ∷ [])) five_c ≡ came (Ok (held 5 7 1)) five_c.seq five_c.text five_c.ml)
+    × (left (drop_calls (0 ∷ [])) five_c ≡ came (Ok (held 5 7 1)) five_c.seq five_c.text five_c.ml)
+    × (left (drop_calls (4 ∷ [])) five_c ≡ came (Ok (held 5 5 0)) five_c.seq (ascii "C+m?;0;") five_c.ml)
     × (left (drop_calls (4 ∷ [])) five_c_plain ≡ came (refuse 10) five_c_plain.seq five_c_plain.text five_c_plain.ml)
 unfolding leaves_memory step_stored
 place_that_is_none = (refl, refl, refl, refl, refl, refl)
@@ -48,8 +49,8 @@ five_g = rows (0x22 ∷ 0x22 ∷ 0x20 ∷ []) (ascii "G-m?,0;") (200 ∷ []) 5 7
 pub stored_as_c :
     (number_of (open_stored true true five_g) ≡ 0)
     × (number_of (open_stored false true five_g) ≡ 7)
-    × (left (drop_calls (7 ∷ [])) five_g ≡ came (done (held 5 7 1)) five_g.seq five_g.text five_g.ml)
-    × (left (mask (4 ∷ [])) five_g ≡ came (done (held 5 5 0)) (0x22 ∷ 0x22 ∷ 0xF0 ∷ []) (ascii "G-m?;0;") five_g.ml)
+    × (left (drop_calls (7 ∷ [])) five_g ≡ came (Ok (held 5 7 1)) five_g.seq five_g.text five_g.ml)
+    × (left (mask (4 ∷ [])) five_g ≡ came (Ok (held 5 5 0)) (0x22 ∷ 0x22 ∷ 0xF0 ∷ []) (ascii "G-m?;0;") five_g.ml)
 unfolding leaves_memory open_stored step_stored
 stored_as_c = (refl, refl, refl, refl)
 
@@ -61,11 +62,11 @@ four row = rows row (ascii "C+m?,0;") (200 ∷ []) 4 7 1
 
 -- CGT is left. Bytes past the new end are unchanged, in the row and in a longer one; the low half of the last byte becomes 0.
 pub cut_off_the_front :
-    (left (cut 1 0) (four (0x12 ∷ 0x48 ∷ [])) ≡ came (done (held 3 7 1)) (0x24 ∷ 0x80 ∷ []) (ascii "C+m?,0;") (200 ∷ []))
-    × (left (cut 1 0) (four (0x12 ∷ 0x48 ∷ 0x77 ∷ [])) ≡ came (done (held 3 7 1)) (0x24 ∷ 0x80 ∷ 0x77 ∷ []) (ascii "C+m?,0;") (200 ∷ []))
-    × (left (cut 2 0) (four (0x12 ∷ 0x48 ∷ 0x77 ∷ [])) ≡ came (done (held 2 7 1)) (0x48 ∷ 0x48 ∷ 0x77 ∷ []) (ascii "C+m?,0;") (200 ∷ []))
-    × (left (cut 3 0) (four (0x12 ∷ 0x48 ∷ [])) ≡ came (done (held 1 5 0)) (0x80 ∷ 0x48 ∷ []) (ascii "C+m?;0;") (200 ∷ []))
-    × (left (cut 4 0) (four (0x12 ∷ 0x48 ∷ [])) ≡ came (done (held 0 5 0)) (0x12 ∷ 0x48 ∷ []) (ascii "C+m?;0;") (200 ∷ []))
+    (left (cut 1 0) (four (0x12 ∷ 0x48 ∷ [])) ≡ came (Ok (held 3 7 1)) (0x24 ∷ 0x80 ∷ []) (ascii "C+m?,0;") (200 ∷ []))
+    × (left (cut 1 0) (four (0x12 ∷ 0x48 ∷ 0x77 ∷ [])) ≡ came (Ok (held 3 7 1)) (0x24 ∷ 0x80 ∷ 0x77 ∷ []) (ascii "C+m?,0;") (200 ∷ []))
+    × (left (cut 2 0) (four (0x12 ∷ 0x48 ∷ 0x77 ∷ [])) ≡ came (Ok (held 2 7 1)) (0x48 ∷ 0x48 ∷ 0x77 ∷ []) (ascii "C+m?,0;") (200 ∷ []))
+    × (left (cut 3 0) (four (0x12 ∷ 0x48 ∷ [])) ≡ came (Ok (held 1 5 0)) (0x80 ∷ 0x48 ∷ []) (ascii "C+m?;0;") (200 ∷ []))
+    × (left (cut 4 0) (four (0x12 ∷ 0x48 ∷ [])) ≡ came (Ok (held 0 5 0)) (0x12 ∷ 0x48 ∷ []) (ascii "C+m?;0;") (200 ∷ []))
     × (left (cut 2 3) (four (0x12 ∷ 0x48 ∷ [])) ≡ came (refuse 11) (0x12 ∷ 0x48 ∷ []) (ascii "C+m?,0;") (200 ∷ []))
 unfolding leaves_memory step_stored
 cut_off_the_front = (refl, refl, refl, refl, refl, refl)
@@ -73,7 +74,7 @@ cut_off_the_front = (refl, refl, refl, refl, refl, refl)
 -- the same cut of a forward read
 pub cut_off_a_forward_read :
     leaves_memory (four (0x12 ∷ 0x48 ∷ [])) (step_stored false true (cut 1 0) (four (0x12 ∷ 0x48 ∷ [])))
-    ≡ came (done (held 3 7 1)) (0x24 ∷ 0x80 ∷ []) (ascii "C+m?,0;") (200 ∷ [])
+    ≡ came (Ok (held 3 7 1)) (0x24 ∷ 0x80 ∷ []) (ascii "C+m?,0;") (200 ∷ [])
 unfolding leaves_memory step_stored
 cut_off_a_forward_read = refl
 
@@ -95,9 +96,9 @@ spare_is_no_base = (refl, refl, refl, refl, refl)
 
 -- a step that is done makes it 0, even where the bases stay as they are
 pub spare_becomes_zero :
-    (left (drop_calls (0 ∷ [])) (one (ascii "C+m?,0;") 7) ≡ came (done (held 1 5 0)) (0x40 ∷ []) (ascii "C+m?;0;") (200 ∷ []))
-    × (left (drop_calls []) (one (ascii "C+m?,0;") 7) ≡ came (done (held 1 7 1)) (0x40 ∷ []) (ascii "C+m?,0;") (200 ∷ []))
-    × (left (mask (0 ∷ [])) (one (ascii "C+m?,0;") 7) ≡ came (done (held 1 5 0)) (0xF0 ∷ []) (ascii "C+m?;0;") (200 ∷ []))
+    (left (drop_calls (0 ∷ [])) (one (ascii "C+m?,0;") 7) ≡ came (Ok (held 1 5 0)) (0x40 ∷ []) (ascii "C+m?;0;") (200 ∷ []))
+    × (left (drop_calls []) (one (ascii "C+m?,0;") 7) ≡ came (Ok (held 1 7 1)) (0x40 ∷ []) (ascii "C+m?,0;") (200 ∷ []))
+    × (left (mask (0 ∷ [])) (one (ascii "C+m?,0;") 7) ≡ came (Ok (held 1 5 0)) (0xF0 ∷ []) (ascii "C+m?;0;") (200 ∷ []))
 unfolding leaves_memory step_stored
 spare_becomes_zero = (refl, refl, refl)
 

@@ -1,6 +1,7 @@
 -- The step on a stored read is the plain step on what the rows hold in read orientation: the same number, and the rows then hold what the plain step
 -- gives. Lengths that are in order stay so, and bytes stay bytes.
 -- Assumes nothing.
+use Rattle.std.specs.Prelude.{Ok, Err}
 use mathlib.Core.Path.{◌≡◌, refl, sym}
 use Prim.Native.Nat.{ℕ, ◌+◌, ◌-◌, ◌≤◌}
 use native.Mathlib.Omega.{arith}
@@ -11,7 +12,7 @@ use lib.Dec.{leb, eqb}
 use borrow.Author.Tests.{eqb-true, le-leb, leb-true}
 use Rattle.lent.specs.Filled.{over}
 use Rattle.lent.specs.Lists.{among}
-use Rattle.lent.specs.Outcome.{Outcome, and_then, done, number_of, refused}
+use Rattle.lent.specs.Outcome.{Outcome, and_then, number_of}
 use Rattle.lent.proofs.Filled.{length_over, over_front}
 use Rattle.lent.proofs.Outcome.{need_rest, need_test}
 use Rattle.lent.proofs.Tests.{and_true, and_true_l, and_true_r, by-test}
@@ -31,12 +32,12 @@ use Rattle.stored_steps.specs.Steps.{held_in_read, open_stored, step_stored, sto
 
 -- what an outcome gives, if it gives anything, has letters as its bases
 abbrev pub Lettered : Outcome Held → Type 0
-Lettered (refused r) = Unit {0}
-Lettered (done s) = Letters s.seq
+Lettered (Err r) = Unit {0}
+Lettered (Ok s) = Letters s.seq
 
 lettered_with : (ml? : Bool) (h : Held) (after : List ℕ) → Letters after → (o : Outcome Tag) → Lettered (held_with ml? h after o)
-lettered_with ml? h after l (refused r) = tt
-lettered_with ml? h after l (done r) = l
+lettered_with ml? h after l (Err r) = tt
+lettered_with ml? h after l (Ok r) = l
 
 pub step_letters : (ml? : Bool) (t : Step) (h : Held) → Letters h.seq → Lettered (stepped ml? t h)
 unfolding stepped
@@ -171,9 +172,9 @@ pub record Follows (reverse ml? : Bool) (m : Memory) (o : Outcome Held) (r : Out
   pub order_then : In-order ml? (after_step m r)
 
 follows : (reverse ml? : Bool) (m : Memory) → In-order ml? m → (o : Outcome Held) → Shrinks ml? (held_in_read reverse m) o → Lettered o
-    → Follows reverse ml? m o (and_then o (λ s. done (stored_back reverse ml? m s)))
-follows reverse ml? m i (refused r) w l = record { held_then = refl; number_then = refl; order_then = i }
-follows reverse ml? m i (done s) w l =
+    → Follows reverse ml? m o (and_then o (λ s. Ok (stored_back reverse ml? m s)))
+follows reverse ml? m i (Err r) w l = record { held_then = refl; number_then = refl; order_then = i }
+follows reverse ml? m i (Ok s) w l =
     record { held_then = stored_held reverse m s ml? l w; number_then = refl; order_then = stored_in_order reverse m s ml? i w }
 
 held_letters : (reverse ml? : Bool) (m : Memory) → In-order ml? m → Letters (held_in_read reverse m).seq
@@ -183,7 +184,7 @@ held_letters reverse ml? m i = in_read_letters reverse m.lengths.seq m.seq i.seq
 -- the step's definition where the lengths are in order
 pub ordered_step : (reverse ml? : Bool) (t : Step) (m : Memory) → In-order ml? m
     → step_stored reverse ml? t m
-    ≡ and_then (stepped ml? (step_in_read reverse m.lengths.seq t) (held_in_read reverse m)) (λ s. done (stored_back reverse ml? m s))
+    ≡ and_then (stepped ml? (step_in_read reverse m.lengths.seq t) (held_in_read reverse m)) (λ s. Ok (stored_back reverse ml? m s))
 unfolding step_stored
 ordered_step reverse ml? t m i = rw (domain_test ml? m i, buffers_test ml? m i)
 
@@ -197,8 +198,8 @@ step_follows reverse ml? t m i =
 
 -- ---- at the opening
 
-pub opened_in_order : (reverse ml? : Bool) (m : Memory) (ls : List Listing) → Bytes m.seq → open_stored reverse ml? m ≡ done ls
-    → In-order ml? m × (lists ml? (held_in_read reverse m).seq (held_in_read reverse m).text (held_in_read reverse m).ml ≡ done ls)
+pub opened_in_order : (reverse ml? : Bool) (m : Memory) (ls : List Listing) → Bytes m.seq → open_stored reverse ml? m ≡ Ok ls
+    → In-order ml? m × (lists ml? (held_in_read reverse m).seq (held_in_read reverse m).text (held_in_read reverse m).ml ≡ Ok ls)
 unfolding open_stored
 opened_in_order reverse ml? m ls bytes e =
     let long = eqb (length m.seq) (bytes_for m.lengths.seq) in

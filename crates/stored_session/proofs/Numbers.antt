@@ -1,6 +1,7 @@
 -- The numbers that each public call can answer: no other number, and 0 exactly when the call is done. They are those of the plain session. For each of them
 -- there is an input, a reverse read that is stored.
 -- Assumes nothing.
+use Rattle.std.specs.Prelude.{Ok, Err}
 use mathlib.Core.Path.{◌≡◌, refl, sym, ap, ◌∙◌}
 use Prim.Native.Nat.{ℕ}
 use mathlib.Core.Bool.{Bool, true, false, ◌&&◌}
@@ -10,12 +11,10 @@ use lib.Dec.{eqb, leb}
 use Rattle.lent.proofs.Answers.{answers, only_and_then, only_need, only_on_done}
 use Rattle.lent.specs.Answers.{Answers, refuses_only}
 use Rattle.lent.specs.Lists.{among}
-use Rattle.lent.specs.Outcome.{Outcome, done, number_of, on_done, refused}
+use Rattle.lent.specs.Outcome.{Outcome, number_of, on_done}
 use Rattle.packed.specs.Packed.{bytes_for}
 use Rattle.packed.specs.Stored.{as_stored, step_in_read}
-use Rattle.reading.specs.Answers.{reading_says}
 use Rattle.reading.specs.Calls.{counts_of}
-use Rattle.reading.specs.declared.Reading.{Reading}
 use Rattle.samtags.proofs.Numbers.{bad_tags, empty_buffers, good_tag, lists_only, open_numbers, step_numbers, stepped_only, unmarked_tag}
 use Rattle.samtags.specs.Session.{Held, Memory, Step, cut, drop_calls, lengths_in_domain, mask, stepped}
 use Rattle.session.specs.PublicContracts.{Call, Rows, in_memory}
@@ -34,7 +33,7 @@ open_stored_only reverse ml? m =
     (only_need open_numbers (eqb (length m.seq) (bytes_for m.lengths.seq) && tag_in_buffers ml? m) 2 _ refl
     (lists_only open_numbers refl ml? h.seq h.text h.ml))
 
-pub open_numbers_lem : (reverse ml? : Bool) (w : Rows) (r : Reading) → OpensStored reverse ml? w r → Answers open_numbers (reading_says r)
+pub open_numbers_lem : (reverse ml? : Bool) (w : Rows) (r : Outcome (ℕ × ℕ)) → OpensStored reverse ml? w r → Answers open_numbers r
 open_numbers_lem reverse ml? w r e =
     rw e (answers open_numbers _ refl (only_on_done open_numbers counts_of (open_stored reverse ml? (in_memory w)) (open_stored_only reverse ml? (in_memory w))))
 
@@ -75,8 +74,8 @@ step_stored_only reverse ml? t m =
 -- a step's answer refuses as the step does
 answer_refuses : (ns : List ℕ) (m : Memory) (o : Outcome Memory) → refuses_only ns o ≡ true → refuses_only ns (leaves_memory m o).answer ≡ true
 unfolding leaves_memory
-answer_refuses ns m (refused r) h = h
-answer_refuses ns m (done n) h = refl
+answer_refuses ns m (Err r) h = h
+answer_refuses ns m (Ok n) h = refl
 
 -- the set depends on the step that was asked for: a mask, a drop or a cut
 pub step_numbers_lem : (reverse ml? : Bool) (w : Rows) (c : Call) → MeetsStored reverse ml? w c → Answers (step_numbers c.asked) (step_says c.answered)
@@ -89,8 +88,8 @@ step_numbers_lem reverse ml? w c e =
 
 -- ---- the number is the definition's
 
-pub open_number : (reverse ml? : Bool) (w : Rows) (r : Reading) → OpensStored reverse ml? w r
-    → number_of (reading_says r) ≡ number_of (on_done counts_of (open_stored reverse ml? (in_memory w)))
+pub open_number : (reverse ml? : Bool) (w : Rows) (r : Outcome (ℕ × ℕ)) → OpensStored reverse ml? w r
+    → number_of r ≡ number_of (on_done counts_of (open_stored reverse ml? (in_memory w)))
 open_number reverse ml? w r e = ap number_of e
 
 pub step_number : (reverse ml? : Bool) (w : Rows) (c : Call) → MeetsStored reverse ml? w c

@@ -1,5 +1,6 @@
 -- Opening a stored session: if the lengths are in order, the answer is that of `check_tag` on the front of each row.
 -- Assumes nothing.
+use Rattle.std.specs.Prelude.{Ok, Err}
 use mathlib.Core.Path.{◌≡◌, refl, sym, ap, ◌∙◌}
 use Prim.Native.Nat.{ℕ}
 use native.Mathlib.Omega.{arith}
@@ -9,7 +10,7 @@ use lib.ListN.{length, length-take, take}
 use borrow.Author.Tests.{eqb-true, le-leb}
 use Rattle.lent.proofs.Outcome.{need_rest, need_test}
 use Rattle.lent.proofs.Tests.{and_true_r, by-test}
-use Rattle.lent.specs.Outcome.{done, need, refused}
+use Rattle.lent.specs.Outcome.{need, refusal}
 use Rattle.lent.specs.declared.Refusal.{Refusal}
 use Rattle.packed.proofs.Turning.{length_in_read}
 use Rattle.packed.specs.Packed.{bytes_for}
@@ -34,19 +35,19 @@ exact_enough bytes need e =
 
 module _ (reverse ml? : Bool) (m : Memory) where
   -- lengths that refuse every step refuse the opening alike
-  pub open_refused : (r : Refusal) → step_tests ml? m ≡ refused r → open_stored reverse ml? m ≡ refused r
+  pub open_refused : (r : Refusal) → step_tests ml? m ≡ Err r → open_stored reverse ml? m ≡ Err r
   unfolding open_stored
   open_refused r e =
       go (lengths_in_domain ml? m.lengths) (leb (bytes_for m.lengths.seq) (length m.seq)) (eqb (length m.seq) (bytes_for m.lengths.seq))
       (tag_in_buffers ml? m) (exact_enough (length m.seq) (bytes_for m.lengths.seq)) e
     where
-      go : (d l x t : Bool) → (l ≡ false → x ≡ false) → tested d (l && t) ≡ refused r
-          → need d 1 (need (x && t) 2 (lists ml? (held_in_read reverse m).seq (held_in_read reverse m).text (held_in_read reverse m).ml)) ≡ refused r
+      go : (d l x t : Bool) → (l ≡ false → x ≡ false) → tested d (l && t) ≡ Err r
+          → need d 1 (need (x && t) 2 (lists ml? (held_in_read reverse m).seq (held_in_read reverse m).text (held_in_read reverse m).ml)) ≡ Err r
       go true true x true f e = let z : ◌≡◌ {A = ℕ} 0 1 = cc in absurd (omega arith)
-      go true true true false f e = let s : ◌≡◌ {A = Refusal} (record { 0 = 2 }) r = cc in rw s
-      go true true false false f e = let s : ◌≡◌ {A = Refusal} (record { 0 = 2 }) r = cc in rw s
-      go true false x t f e = let s : ◌≡◌ {A = Refusal} (record { 0 = 2 }) r = cc in rw (f refl, s)
-      go false l x t f e = let s : ◌≡◌ {A = Refusal} (record { 0 = 1 }) r = cc in rw s
+      go true true true false f e = let s : ◌≡◌ {A = Refusal} (refusal 2) r = cc in rw s
+      go true true false false f e = let s : ◌≡◌ {A = Refusal} (refusal 2) r = cc in rw s
+      go true false x t f e = let s : ◌≡◌ {A = Refusal} (refusal 2) r = cc in rw (f refl, s)
+      go false l x t f e = let s : ◌≡◌ {A = Refusal} (refusal 1) r = cc in rw s
 
   pub open_is_check : OrderedStored ml? m → (t k : ℕ) → t ≡ m.lengths.text → k ≡ cond ml? m.lengths.ml 0
       → read_stored reverse ml? m.lengths.seq m.seq (take t m.text) (take k m.ml) ≡ open_stored reverse ml? m
@@ -61,7 +62,7 @@ module _ (reverse ml? : Bool) (m : Memory) where
       let fits : in_domain ml? seq (take t m.text) (take k m.ml) ≡ true =
       rw (values_leb ml? (length (take k m.ml)) 65536, length_in_read reverse n m.seq, le-leb n 16000 i.0, small, values) in
       let domain = need_test (lengths_in_domain ml? m.lengths) 1 _ tt (passes ml? m i) in
-      let buffers = need_test (leb (bytes_for n) (length m.seq) && tag_in_buffers ml? m) 2 (done tt) tt (need_rest (lengths_in_domain ml? m.lengths) 1 _ tt (passes ml? m i)) in
+      let buffers = need_test (leb (bytes_for n) (length m.seq) && tag_in_buffers ml? m) 2 (Ok tt) tt (need_rest (lengths_in_domain ml? m.lengths) 1 _ tt (passes ml? m i)) in
       let tag = and_true_r (leb (bytes_for n) (length m.seq)) (tag_in_buffers ml? m) buffers in
       rw (stated, fits, domain, tag, and_true_right (is_exact n m.seq))
       (ap (need (is_exact n m.seq) 2) (same_lists ml? m ml? seq (take t m.text) k r

@@ -1,6 +1,7 @@
 -- A session of a stored read can be opened again after any steps, on the bytes that the bases then take, and lists what is left. After a cut the row may
 -- be longer, and the opening refuses a longer row.
 -- Assumes nothing.
+use Rattle.std.specs.Prelude.{Ok}
 use mathlib.Core.Path.{◌≡◌, ap, ◌∙◌, sym}
 use Prim.Native.Nat.{ℕ, ◌/◌, ◌%◌, ◌≤◌, ◌<◌}
 use native.Mathlib.Omega.{arith}
@@ -10,7 +11,7 @@ use lib.ListN.{length, take}
 use lib.Seq.{get_or-take, length-take-le}
 use lib.Dec.{eqb}
 use borrow.Author.Tests.{eq-eqb}
-use Rattle.lent.specs.Outcome.{done, on_done}
+use Rattle.lent.specs.Outcome.{Outcome, on_done}
 use Rattle.lent.proofs.Tabulate.{tabulate_ext}
 use Rattle.lent.proofs.Tests.{and_true}
 use Rattle.packed.proofs.Rows.{Bytes}
@@ -27,9 +28,6 @@ use Rattle.stored_session.proofs.Demand.{as_meant, chain_runs}
 use Rattle.stored_session.proofs.Held.{In-order, domain_test, opened_in_order, tag_test}
 use Rattle.stored_session.specs.Chain.{ChainStored, read_in, steps_in_read}
 use Rattle.stored_steps.specs.Steps.{held_in_read, open_stored, tag_in_buffers}
-use Rattle.reading.specs.declared.Reading.{Reading}
-use Rattle.reading.specs.declared.Reading.TheVariants as reading
-use Rattle.reading.specs.Answers.{reading_says}
 use Rattle.reading.specs.Calls.{counts_of}
 use Rattle.lent.proofs.Outcome.{on_done_inv}
 use Rattle.stored_session.specs.PublicContracts.{OpensStored}
@@ -73,22 +71,22 @@ fitted_opens reverse ml? w i =
     and_true (eqb (length (take n w.seq)) n) (tag_in_buffers ml? (in_memory w)) (eq-eqb _ _ long) (tag_test ml? (in_memory w) i) in
     rw (domain, both) (ap (λ (h : Held). lists ml? h.seq h.text h.ml) (fitted_held reverse w))
 
-pub opens_again : (reverse ml? : Bool) (w : Rows) → Bytes w.seq → (ls : List Listing) → open_stored reverse ml? (in_memory w) ≡ done ls
+pub opens_again : (reverse ml? : Bool) (w : Rows) → Bytes w.seq → (ls : List Listing) → open_stored reverse ml? (in_memory w) ≡ Ok ls
     → (cs : List Call) → ChainStored reverse ml? w cs
     → open_stored reverse ml? (in_memory (fitted (at_end w cs)))
-    ≡ done (map (left_of_listing (after_steps ls (steps_in_read reverse w cs) (opening (read_in reverse w).seq))) ls)
+    ≡ Ok (map (left_of_listing (after_steps ls (steps_in_read reverse w cs) (opening (read_in reverse w).seq))) ls)
 opens_again reverse ml? w bytes ls e cs k =
     let o = opened_in_order reverse ml? (in_memory w) ls bytes e in
     fitted_opens reverse ml? (at_end w cs) (chain_runs reverse ml? cs w o.0 k).2
     ∙ (as_meant reverse ml? w bytes ls e cs k).lists_then
 
--- About the code: if `open` answered Done, then after any calls, opened again on the bytes that the bases take, it answers as many groups and calls as are
+-- About the code: if `open` answered Ok, then after any calls, opened again on the bytes that the bases take, it answers as many groups and calls as are
 -- left.
-pub opened_again : (reverse ml? : Bool) (w : Rows) → Bytes w.seq → (groups calls : ℕ) → OpensStored reverse ml? w (reading.Done groups calls)
+pub opened_again : (reverse ml? : Bool) (w : Rows) → Bytes w.seq → (groups calls : ℕ) → OpensStored reverse ml? w (Ok (groups, calls))
     → (cs : List Call) → ChainStored reverse ml? w cs
-    → (ls : List Listing) × (lists ml? (read_in reverse w).seq (read_in reverse w).text (read_in reverse w).ml ≡ done ls)
-    × ((r : Reading) → OpensStored reverse ml? (fitted (at_end w cs)) r
-    → reading_says r ≡ done (counts_of (map (left_of_listing (after_steps ls (steps_in_read reverse w cs) (opening (read_in reverse w).seq))) ls)))
+    → (ls : List Listing) × (lists ml? (read_in reverse w).seq (read_in reverse w).text (read_in reverse w).ml ≡ Ok ls)
+    × ((r : Outcome (ℕ × ℕ)) → OpensStored reverse ml? (fitted (at_end w cs)) r
+    → r ≡ Ok (counts_of (map (left_of_listing (after_steps ls (steps_in_read reverse w cs) (opening (read_in reverse w).seq))) ls)))
 opened_again reverse ml? w bytes groups calls opened cs k =
     let (ls, e, counted) = on_done_inv counts_of (open_stored reverse ml? (in_memory w)) (groups, calls) (sym opened) in (
       ls,

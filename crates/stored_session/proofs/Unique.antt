@@ -1,11 +1,10 @@
 -- Each public call's contract determines its outcome, the answer and every lent row: two outcomes that meet the contract are equal.
 -- Assumes nothing.
+use Rattle.std.specs.Prelude.{ℕ}
+use Rattle.lent.specs.Outcome.{Outcome}
 use mathlib.Core.Path.{◌≡◌, ap, sym, ◌∙◌}
 use mathlib.Core.Bool.{Bool}
 use Rattle.lent.proofs.Filled.{settled}
-use Rattle.reading.proofs.Unique.{reading_says_inj}
-use Rattle.reading.specs.Answers.{reading_says}
-use Rattle.reading.specs.declared.Reading.{Reading}
 use Rattle.samtags.specs.Session.{Step}
 use Rattle.session.proofs.Unique.{step_says_inj}
 use Rattle.session.specs.PublicContracts.{Call, Rows, in_memory}
@@ -14,8 +13,8 @@ use Rattle.stored_session.specs.PublicContracts.{MeetsStored, OpensStored}
 use Rattle.stored_steps.specs.Steps.{step_stored}
 
 module _ (reverse ml? : Bool) (w : Rows) where
-  pub open_unique : (r s : Reading) → OpensStored reverse ml? w r → OpensStored reverse ml? w s → r ≡ s
-  open_unique r s p q = reading_says_inj r s (settled (reading_says r) (reading_says s) p q)
+  pub open_unique : (r s : Outcome (ℕ × ℕ)) → OpensStored reverse ml? w r → OpensStored reverse ml? w s → r ≡ s
+  open_unique = settled
 
   -- for `mask`, `drop_calls` and `cut` alike
   pub step_unique : (c d : Call) → c.asked ≡ d.asked → MeetsStored reverse ml? w c → MeetsStored reverse ml? w d → c ≡ d

@@ -1,11 +1,11 @@
 -- Demand 3's theorem about stored reads, and the law, applied to a worked session: their hypotheses can be met together. A chain of calls exists for every
 -- list of steps (proofs/ChainExists).
 -- Assumes nothing.
+use Rattle.std.specs.Prelude.{Ok}
 use mathlib.Core.Path.{◌≡◌, refl}
 use Prim.Native.Nat.{ℕ}
 use mathlib.Core.Bool.{true}
 use mathlib.Core.List.{List, [], ◌∷◌}
-use Rattle.lent.specs.Outcome.{done}
 use Rattle.packed.proofs.Rows.{bytes_by_test}
 use Rattle.reading.specs.Calls.{counts_of}
 use Rattle.samtags.specs.Bytes.{ascii}
@@ -26,7 +26,7 @@ abbrev five : Rows
 five = record { seq = 0x44 ∷ 0x44 ∷ 0x4F ∷ []; mm = ascii "C+m?,0;"; ml = 200 ∷ []; lengths = record { seq = 5; mm = 7; ml = 1 } }
 
 pub worked_session_as_meant : (cs : List Call) → ChainStored true true five cs
-    → (ls : List Listing) × (lists true (read_in true five).seq (read_in true five).text (read_in true five).ml ≡ done ls)
+    → (ls : List Listing) × (lists true (read_in true five).seq (read_in true five).text (read_in true five).ml ≡ Ok ls)
     × (◌≡◌ {A = ℕ × ℕ} (counts_of ls) (1, 1)) × As-meant true true five ls cs
 unfolding call_list open_stored
 worked_session_as_meant cs k = session_as_meant true true five (bytes_by_test five.seq refl) 1 1 refl cs k

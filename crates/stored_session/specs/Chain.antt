@@ -1,7 +1,7 @@
 -- A session of a stored read as a program runs it: `open`, and then calls of `mask`, `drop_calls` and `cut`, each on the rows and the lengths that the
 -- last call left. Only the contract of each call is used.
 -- Assumes nothing.
-use Rattle.std.specs.Prelude.{Bool, List, [], ◌∷◌, ℕ}
+use Rattle.std.specs.Prelude.{Bool, List, [], ◌∷◌}
 use Rattle.packed.specs.Stored.{step_in_read}
 use Rattle.samtags.specs.Session.{Held, Step}
 use Rattle.session.specs.Chain.{left_by}

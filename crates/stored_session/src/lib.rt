@@ -3,8 +3,8 @@
 //
 // The session owns nothing and hides nothing, as the plain one of `session`. Its lengths are the number of bases and how much of the rows of text and ML
 // it holds. Everything is counted in the stored read: places, the two ends of a cut. The tag is in read orientation and is never turned. A step equals
-// turning SEQ, making the plain step and turning back, so that after every step that is done the spare half of the last byte is 0. A refused step, and
-// a cut of nothing (21), change nothing at all, the spare half neither. 1 if a length is outside the domain; 2 if the packed bytes are fewer than the
+// turning SEQ, making the plain step and turning back, so that after every step that is Ok the spare half of the last byte is 0. With any Err, also that
+// of a cut of nothing (21), nothing at all is changed, the spare half neither. Err with 1 if a length is outside the domain; 2 if the packed bytes are fewer than the
 // bases take, and at the opening also if they are more; then as the plain session. No public function has a `requires`.
 #![tactic(auto)]
 
@@ -12,11 +12,10 @@ ghost use Rattle.samtags.specs.Session.{cut, drop_calls, mask};
 ghost use Rattle.session.specs.PublicContracts.{call, rows};
 ghost use Rattle.stored_session.specs.PublicContracts.{MeetsStored, OpensStored};
 
-use reading::Reading;
-use stepping::order::Order;
-use stepping::{Lengths, Stepped};
+use lent::Refusal;
+use stepping::Lengths;
 
-// Opens a session: how many groups and calls its tag has, or the number of the refusal. Nothing is written.
+// Opens a session: Ok with the numbers of its tag's groups and calls. Nothing is written.
 pub fn open(
     packed: &[u8],
     reverse: bool,
@@ -24,13 +23,10 @@ pub fn open(
     ml: &[u8],
     has_ml: bool,
     lengths: Lengths,
-) -> Reading
+) -> Result<(usize, usize), Refusal>
     ensures { OpensStored reverse has_ml (rows packed.now mm.now ml.now lengths) result }
 {
-    let found = stored_steps::lengths_in_order(packed.len(), mm.len(), ml.len(), has_ml, lengths);
-    let Order::Kept = found else {
-        return Reading::Refused(found.refusal());
-    };
+    stored_steps::lengths_in_order(packed.len(), mm.len(), ml.len(), has_ml, lengths)?;
     let text = lengths.mm;
     let taken = scanning::values_taken(lengths.ml, has_ml);
     stored::check_tag(
@@ -53,14 +49,11 @@ pub fn mask(
     has_ml: bool,
     lengths: Lengths,
     places: &[u32],
-) -> Stepped
+) -> Result<Lengths, Refusal>
     ensures { MeetsStored reverse has_ml (rows packed.old mm.old ml.old lengths)
         (call (mask places.now) result packed.new mm.new ml.new) }
 {
-    let found = stored_steps::lengths_in_order(packed.len(), mm.len(), ml.len(), has_ml, lengths);
-    let Order::Kept = found else {
-        return Stepped::Refused(found.refusal());
-    };
+    stored_steps::lengths_in_order(packed.len(), mm.len(), ml.len(), has_ml, lengths)?;
     if lengths.seq <= 1024 {
         let mut seq = changing::few_marks();
         let mut after = changing::few_marks();
@@ -75,8 +68,8 @@ pub fn mask(
     )
 }
 
-// Drops the calls at the listed places of the stored read, in any order and more than once. SEQ stays, so their bases still count in later skips. 10 at a
-// call whose group's header does not end in '?'.
+// Drops the calls at the listed places of the stored read, in any order and more than once. SEQ stays, so their bases still count in later skips. Err with
+// 10 at a call whose group's header does not end in '?'.
 pub fn drop_calls(
     packed: &mut [u8],
     reverse: bool,
@@ -85,14 +78,11 @@ pub fn drop_calls(
     has_ml: bool,
     lengths: Lengths,
     places: &[u32],
-) -> Stepped
+) -> Result<Lengths, Refusal>
     ensures { MeetsStored reverse has_ml (rows packed.old mm.old ml.old lengths)
         (call (drop_calls places.now) result packed.new mm.new ml.new) }
 {
-    let found = stored_steps::lengths_in_order(packed.len(), mm.len(), ml.len(), has_ml, lengths);
-    let Order::Kept = found else {
-        return Stepped::Refused(found.refusal());
-    };
+    stored_steps::lengths_in_order(packed.len(), mm.len(), ml.len(), has_ml, lengths)?;
     if lengths.seq <= 1024 {
         let mut seq = changing::few_marks();
         let mut marks = changing::few_marks();
@@ -107,8 +97,8 @@ pub fn drop_calls(
     )
 }
 
-// Cuts bases off the front and off the back of the stored read. 21 if both are 0, and then the tag is not read; 11 if they are more than SEQ has, however
-// large their sum.
+// Cuts bases off the front and off the back of the stored read. Err with 21 if both are 0, and then the tag is not read; with 11 if they are more than
+// SEQ has, however large their sum.
 pub fn cut(
     packed: &mut [u8],
     reverse: bool,
@@ -118,14 +108,11 @@ pub fn cut(
     lengths: Lengths,
     front: u32,
     back: u32,
-) -> Stepped
+) -> Result<Lengths, Refusal>
     ensures { MeetsStored reverse has_ml (rows packed.old mm.old ml.old lengths)
         (call (cut front back) result packed.new mm.new ml.new) }
 {
-    let found = stored_steps::lengths_in_order(packed.len(), mm.len(), ml.len(), has_ml, lengths);
-    let Order::Kept = found else {
-        return Stepped::Refused(found.refusal());
-    };
+    stored_steps::lengths_in_order(packed.len(), mm.len(), ml.len(), has_ml, lengths)?;
     if lengths.seq <= 1024 {
         let mut few = changing::few_marks();
         return stored_steps::cut_with(

@@ -1,5 +1,6 @@
 -- From a plain step on the unpacked row to the step on the packed row.
 -- Assumes nothing.
+use Rattle.std.specs.Prelude.{Ok, Err}
 use mathlib.Core.Path.{◌≡◌, refl, subst, sym, ap, ◌∙◌}
 use Prim.Native.Nat.{ℕ, ◌≤◌}
 use native.Mathlib.Omega.{arith}
@@ -12,7 +13,7 @@ use Rattle.lent.proofs.Filled.{over_front, length_over}
 use Rattle.lent.proofs.Outcome.{done_inj, need_rest, need_test}
 use Rattle.lent.proofs.Tests.{and_true_l, and_true_r, by-test}
 use Rattle.lent.specs.Filled.{over}
-use Rattle.lent.specs.Outcome.{Outcome, and_then, done, need, refused}
+use Rattle.lent.specs.Outcome.{Outcome, and_then, need}
 use Rattle.lent.specs.declared.Refusal.{Refusal}
 use Rattle.packed.specs.Packed.{bytes_for}
 use Rattle.packed.specs.Stored.{as_stored, in_read, step_in_read}
@@ -22,8 +23,6 @@ use Rattle.samtags.specs.Session.{Held, Lengths, Memory, Step, held_in, lengths_
 use Rattle.stepping.proofs.OrderLaws.{ordered_is, values_leb}
 use Rattle.stepping.specs.Steps.{Came, Ordered, came, leaves_memory, lengths_in_rows, lengths_of, memory, step_says}
 use Rattle.stepping.specs.declared.Lengths.{Lengths as Declared}
-use Rattle.stepping.specs.declared.Stepped.{Stepped}
-use Rattle.stepping.specs.declared.Stepped.TheVariants as stepped
 use Rattle.stored_rows.proofs.OrderLaws.{tested, tests_pass, tests_refuse}
 use Rattle.stored_steps.specs.Back.{FitsBack, OrderedStored, packed_back}
 use Rattle.stored_steps.specs.Steps.{held_in_read, step_stored, stored_back, tag_in_buffers}
@@ -44,7 +43,7 @@ packed_tests ml? packed mm ml bases n same =
     let few = and_true_l (leb n.seq 16000) (leb n.mm 65536)
     (and_true_l (leb n.seq 16000 && leb n.mm 65536) (cond ml? (leb n.ml 65536) true) d) in
     rw (d, same n.seq (leb-true n.seq 16000 few))
-    (ap (λ (t : Bool). need t 2 (done tt)) (and_assoc (leb (bytes_for n.seq) packed) (leb n.mm mm) (cond ml? (leb n.ml ml) true))))
+    (ap (λ (t : Bool). need t 2 (Ok tt)) (and_assoc (leb (bytes_for n.seq) packed) (leb n.mm mm) (cond ml? (leb n.ml ml) true))))
     (λ d. rw d)
   where
     and_assoc : (a b c : Bool) → (a && b) && c ≡ a && (b && c)
@@ -52,11 +51,11 @@ packed_tests ml? packed mm ml bases n same =
     and_assoc false b c = refl
 
 module _ (ml? : Bool) (m : Memory) where
-  pub stored_ordered : step_tests ml? m ≡ done tt → OrderedStored ml? m
+  pub stored_ordered : step_tests ml? m ≡ Ok tt → OrderedStored ml? m
   stored_ordered e =
       let n = m.lengths in
       let d = need_test (lengths_in_domain ml? n) 1 _ tt e in
-      let b = need_test (leb (bytes_for n.seq) (length m.seq) && tag_in_buffers ml? m) 2 (done tt) tt (need_rest (lengths_in_domain ml? n) 1 _ tt e) in
+      let b = need_test (leb (bytes_for n.seq) (length m.seq) && tag_in_buffers ml? m) 2 (Ok tt) tt (need_rest (lengths_in_domain ml? n) 1 _ tt e) in
       let two = and_true_l (leb n.seq 16000 && leb n.text 65536) (cond ml? (leb n.ml 65536) true) d in
       let ml_in : leb (cond ml? n.ml 0) 65536 ≡ true =
       rw (values_leb ml? n.ml 65536) at (and_true_r (leb n.seq 16000 && leb n.text 65536) (cond ml? (leb n.ml 65536) true) d) in
@@ -72,14 +71,14 @@ module _ (ml? : Bool) (m : Memory) where
         leb-true (cond ml? n.ml 0) (length m.ml) ml-row,
       )
 
-  pub step_refused : (reverse : Bool) (t : Step) (r : Refusal) → step_tests ml? m ≡ refused r → step_stored reverse ml? t m ≡ refused r
+  pub step_refused : (reverse : Bool) (t : Step) (r : Refusal) → step_tests ml? m ≡ Err r → step_stored reverse ml? t m ≡ Err r
   unfolding step_stored
   step_refused reverse t r e =
       tests_refuse (lengths_in_domain ml? m.lengths) (leb (bytes_for m.lengths.seq) (length m.seq) && tag_in_buffers ml? m)
-      (and_then (steppedTo ml? (step_in_read reverse m.lengths.seq t) (held_in_read reverse m)) (λ s. done (stored_back reverse ml? m s))) r e
+      (and_then (steppedTo ml? (step_in_read reverse m.lengths.seq t) (held_in_read reverse m)) (λ s. Ok (stored_back reverse ml? m s))) r e
 
 -- lengths that are in order pass the tests
-pub passes : (ml? : Bool) (m : Memory) → OrderedStored ml? m → step_tests ml? m ≡ done tt
+pub passes : (ml? : Bool) (m : Memory) → OrderedStored ml? m → step_tests ml? m ≡ Ok tt
 passes ml? m i =
     let n = m.lengths in
     rw (
@@ -111,67 +110,67 @@ module _ (reverse ml? : Bool) (packed mm ml row : List ℕ) (lengths : Declared)
   same_held = λ j. record { seq = front j; text = take lengths.mm mm; ml = take lengths.ml ml }
 
   -- the plain step's outcome, and the stored step's, from what the step makes of SEQ in read orientation
-  plain_is : (t : Step) → step_in_memory ml? t Unpacked ≡ and_then (steppedTo ml? t (held_in_read reverse Packed)) (λ s. done (stored ml? Unpacked s))
+  plain_is : (t : Step) → step_in_memory ml? t Unpacked ≡ and_then (steppedTo ml? t (held_in_read reverse Packed)) (λ s. Ok (stored ml? Unpacked s))
   unfolding step_in_memory
   plain_is t =
-      ordered_is ml? Unpacked plain_ordered _ ∙ ap (λ (h : Held). and_then (steppedTo ml? t h) (λ s. done (stored ml? Unpacked s))) same_held
+      ordered_is ml? Unpacked plain_ordered _ ∙ ap (λ (h : Held). and_then (steppedTo ml? t h) (λ s. Ok (stored ml? Unpacked s))) same_held
 
   stored_is : (t : Step) → step_stored reverse ml? t Packed
-      ≡ and_then (steppedTo ml? (step_in_read reverse lengths.seq t) (held_in_read reverse Packed)) (λ s. done (stored_back reverse ml? Packed s))
+      ≡ and_then (steppedTo ml? (step_in_read reverse lengths.seq t) (held_in_read reverse Packed)) (λ s. Ok (stored_back reverse ml? Packed s))
   unfolding step_stored
   stored_is t =
       tests_pass (lengths_in_domain ml? (lengths_of lengths)) (leb (bytes_for lengths.seq) (length packed) && tag_in_buffers ml? Packed)
-      (and_then (steppedTo ml? (step_in_read reverse lengths.seq t) (held_in_read reverse Packed)) (λ s. done (stored_back reverse ml? Packed s)))
+      (and_then (steppedTo ml? (step_in_read reverse lengths.seq t) (held_in_read reverse Packed)) (λ s. Ok (stored_back reverse ml? Packed s)))
       (passes ml? Packed i)
 
   module _ (s u v : List ℕ) where
-    abbrev Made : Stepped → Outcome Held → Type 0
-    Made a o = came (step_says a) s u v ≡ leaves_memory Unpacked (and_then o (λ h. done (stored ml? Unpacked h)))
+    abbrev Made : Outcome Declared → Outcome Held → Type 0
+    Made a o = came (step_says a) s u v ≡ leaves_memory Unpacked (and_then o (λ h. Ok (stored ml? Unpacked h)))
 
-    held_length : (a : Declared) (h : Held) → Made (stepped.Done a) (done h) → a.seq ≡ length h.seq
+    held_length : (a : Declared) (h : Held) → Made (Ok a) (Ok h) → a.seq ≡ length h.seq
     unfolding leaves_memory
     held_length a h e =
         let is : lengths_of a ≡ (stored ml? Unpacked h).lengths = done_inj (ap (λ (x : Came). x.answer) e) in
         ap (λ (n : Lengths). n.seq) is
 
-    fits_from : (a : Stepped) (o : Outcome Held) → Made a o → ((h : Held) → o ≡ done h → length h.seq ≤ lengths.seq) → FitsBack a s packed
+    fits_from : (a : Outcome Declared) (o : Outcome Held) → Made a o → ((h : Held) → o ≡ Ok h → length h.seq ≤ lengths.seq) → FitsBack a s packed
     unfolding leaves_memory
-    fits_from (stepped.Done a) (done h) e few =
+    fits_from (Ok a) (Ok h) e few =
         let long = held_length a h e in
         let is : s ≡ over h.seq row = ap (λ (x : Came). x.seq) e in
         let same = length_over h.seq row (omega (arith, few h refl, room)) in
         (omega (arith, few h refl, i.0, long), omega (arith, few h refl, long, room, ap length is, same), omega (arith, few h refl, long, i.3))
-    fits_from (stepped.Done a) (refused q) e few =
-        let x : ◌≡◌ {A = Outcome Lengths} (done (lengths_of a)) (refused q) = ap (λ (x : Came). x.answer) e in
+    fits_from (Ok a) (Err q) e few =
+        let x : ◌≡◌ {A = Outcome Lengths} (Ok (lengths_of a)) (Err q) = ap (λ (x : Came). x.answer) e in
         let z : ◌≡◌ {A = ℕ} 0 1 = cc in absurd (omega arith)
-    fits_from (stepped.Refused r) o e few = tt
+    fits_from (Err r) o e few = tt
 
-    back_from : (a : Stepped) (o : Outcome Held) → Made a o
-        → came (step_says a) (packed_back a reverse s packed) u v ≡ leaves_memory Packed (and_then o (λ h. done (stored_back reverse ml? Packed h)))
+    back_from : (a : Outcome Declared) (o : Outcome Held) → Made a o
+        → came (step_says a) (packed_back a reverse s packed) u v ≡ leaves_memory Packed (and_then o (λ h. Ok (stored_back reverse ml? Packed h)))
     unfolding leaves_memory stored_back
-    back_from (stepped.Done a) (done h) e =
+    back_from (Ok a) (Ok h) e =
         let long = held_length a h e in
         let is : s ≡ over h.seq row = ap (λ (x : Came). x.seq) e in
         let bases : take a.seq s ≡ h.seq =
         (λ j. take (long j) (is j)) ∙ over_front h.seq row in
         λ j. came (e j).answer (over (as_stored reverse (bases j)) packed) (e j).text (e j).ml
-    back_from (stepped.Done a) (refused q) e =
-        let x : ◌≡◌ {A = Outcome Lengths} (done (lengths_of a)) (refused q) = ap (λ (x : Came). x.answer) e in
+    back_from (Ok a) (Err q) e =
+        let x : ◌≡◌ {A = Outcome Lengths} (Ok (lengths_of a)) (Err q) = ap (λ (x : Came). x.answer) e in
         let z : ◌≡◌ {A = ℕ} 0 1 = cc in absurd (omega arith)
-    back_from (stepped.Refused r) (done h) e =
-        let x : ◌≡◌ {A = Outcome Lengths} (refused r) (done (stored ml? Unpacked h).lengths) = ap (λ (x : Came). x.answer) e in
+    back_from (Err r) (Ok h) e =
+        let x : ◌≡◌ {A = Outcome Lengths} (Err r) (Ok (stored ml? Unpacked h).lengths) = ap (λ (x : Came). x.answer) e in
         let z : ◌≡◌ {A = ℕ} 0 1 = cc in absurd (omega arith)
-    back_from (stepped.Refused r) (refused q) e = λ j. came (e j).answer packed (e j).text (e j).ml
+    back_from (Err r) (Err q) e = λ j. came (e j).answer packed (e j).text (e j).ml
 
   -- a step that is done has no more bases than it found
-  few_then : (t : Step) (h : Held) → steppedTo ml? t (held_in_read reverse Packed) ≡ done h → length h.seq ≤ lengths.seq
+  few_then : (t : Step) (h : Held) → steppedTo ml? t (held_in_read reverse Packed) ≡ Ok h → length h.seq ≤ lengths.seq
   unfolding held_in_read
   few_then t h e =
-      let shrinks : Shrinks ml? (held_in_read reverse Packed) (done h) =
+      let shrinks : Shrinks ml? (held_in_read reverse Packed) (Ok h) =
       subst (Shrinks ml? (held_in_read reverse Packed)) e (step_shrinks ml? t (held_in_read reverse Packed)) in
       omega (arith, shrinks.seq_in, length_in_read reverse lengths.seq packed)
 
-  module _ (t : Step) (a : Stepped) (s u v : List ℕ)
+  module _ (t : Step) (a : Outcome Declared) (s u v : List ℕ)
       (made : came (step_says a) s u v ≡ leaves_memory Unpacked (step_in_memory ml? (step_in_read reverse lengths.seq t) Unpacked)) where
     -- the plain step was made on the unpacked row: its bases can be packed back
     pub fits_back : FitsBack a s packed

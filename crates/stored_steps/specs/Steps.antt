@@ -1,9 +1,9 @@
 -- The edit session of a stored read: SEQ is packed, as a BAM record stores it. A step turns SEQ into read orientation, edits as the plain session does,
 -- and turns back. Opening reads the tag in the same way.
 -- Assumes nothing.
-use Rattle.std.specs.Prelude.{ℕ, Bool, true, cond, ◌&&◌, List, length, take, leb, eqb}
+use Rattle.std.specs.Prelude.{Bool, true, cond, ◌&&◌, List, length, take, leb, eqb, Ok}
 use Rattle.lent.specs.Filled.{over}
-use Rattle.lent.specs.Outcome.{Outcome, done, need, and_then}
+use Rattle.lent.specs.Outcome.{Outcome, need, and_then}
 use Rattle.packed.specs.Packed.{bytes_for}
 use Rattle.packed.specs.Stored.{as_stored, in_read, step_in_read}
 use Rattle.samtags.specs.Reading.{lists}
@@ -49,4 +49,4 @@ unfolding held_in_read stepped stored_back
 step_stored reverse ml? t m =
     need (lengths_in_domain ml? m.lengths) 1
     (need (leb (bytes_for m.lengths.seq) (length m.seq) && tag_in_buffers ml? m) 2
-    (and_then (stepped ml? (step_in_read reverse m.lengths.seq t) (held_in_read reverse m)) (λ s. done (stored_back reverse ml? m s))))
+    (and_then (stepped ml? (step_in_read reverse m.lengths.seq t) (held_in_read reverse m)) (λ s. Ok (stored_back reverse ml? m s))))

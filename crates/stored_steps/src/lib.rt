@@ -1,48 +1,54 @@
 // The steps of an edit session on a stored read whose lengths are in order: SEQ is unpacked in read orientation into a row, the plain step is made there,
-// and SEQ is packed back. Every refusal comes before a byte is written, and leaves the rows unchanged. A support crate: its functions may have a
+// and SEQ is packed back. Every Err comes before a byte is written, and leaves the rows unchanged. A support crate: its functions may have a
 // `requires`; the public calls are in `stored_session`.
 #![tactic(auto)]
 
-ghost use Rattle.std.specs.Prelude.{◌≡◌, cond, true, ◌&&◌, ◌≤◌, leb, length, take};
+ghost use Rattle.std.specs.Prelude.{◌≡◌, cond, true, ◌&&◌, ◌≤◌, leb, length, take, Ok};
 ghost use Rattle.changing.specs.Windows.{Unmarked};
 ghost use Rattle.lent.specs.Lists.{among};
-ghost use Rattle.lent.specs.Outcome.{need, done};
+ghost use Rattle.lent.specs.Outcome.{need};
 ghost use Rattle.packed.specs.Packed.{bytes_for};
 ghost use Rattle.packed.specs.Stored.{places_in_read};
 ghost use Rattle.samtags.specs.Session.{cut, drop_calls, lengths_in_domain, mask, masked};
-ghost use Rattle.stepping.specs.Steps.{came, leaves_memory, lengths_of, memory, order_says, step_says};
+ghost use Rattle.stepping.specs.Steps.{came, leaves_memory, lengths_of, memory, step_says};
 ghost use Rattle.stored_steps.specs.Back.{FitsBack, OrderedStored, packed_back};
 ghost use Rattle.stored_steps.specs.Steps.{step_stored};
 
-use stepping::order::Order;
-use stepping::{Lengths, Stepped};
+use lent::Refusal;
+use stepping::Lengths;
 
-// Checks a session's lengths against rows of `packed`, `mm` and `ml` bytes: 1 if a length is outside the domain, 2 if a row is too short for it.
+// Checks a session's lengths against rows of `packed`, `mm` and `ml` bytes: Err with 1 if a length is outside the domain, with 2 if a row is too
+// short for it.
 pub fn lengths_in_order(
     packed: usize,
     mm: usize,
     ml: usize,
     has_ml: bool,
     lengths: Lengths,
-) -> Order
-    ensures { order_says result ≡ need (lengths_in_domain has_ml (lengths_of lengths)) 1
-        (need (leb (bytes_for lengths.seq) packed && (leb lengths.mm mm && cond has_ml (leb lengths.ml ml) true)) 2 (done tt)) }
+) -> Result<(), Refusal>
+    ensures { result ≡ need (lengths_in_domain has_ml (lengths_of lengths)) 1
+        (need (leb (bytes_for lengths.seq) packed && (leb lengths.mm mm && cond has_ml (leb lengths.ml ml) true)) 2 (Ok tt)) }
 {
     let bases = stored_rows::order::bases_in(packed);
     stepping::order::lengths_in_order(bases, mm, ml, has_ml, lengths)
 }
 
-// Packs SEQ of a step that is done back into its row, and passes the answer on.
-fn put_back(answer: Stepped, row: &[u8], reverse: bool, packed: &mut [u8]) -> Stepped
+// Packs SEQ of a step that is Ok back into its row, and passes the answer on.
+fn put_back(
+    answer: Result<Lengths, Refusal>,
+    row: &[u8],
+    reverse: bool,
+    packed: &mut [u8],
+) -> Result<Lengths, Refusal>
     requires { FitsBack answer row.now packed.old }
     ensures { (result ≡ answer) × (packed.new ≡ packed_back answer reverse row.now packed.old) }
 {
-    let Stepped::Done(held) = answer else {
+    let Ok(held) = answer else {
         return answer;
     };
     let n = held.seq;
     packed_rows::pack_row(&row[0..n], reverse, packed);
-    Stepped::Done(held)
+    Ok(held)
 }
 
 // Copies SEQ, in read orientation, to the front of a row, with N at the places of the stored read. Places past SEQ's end mask nothing of it.
@@ -66,7 +72,7 @@ pub fn mask_with(
     places: &[u32],
     seq: &mut [u8],
     after: &mut [u8],
-) -> Stepped
+) -> Result<Lengths, Refusal>
     requires { OrderedStored has_ml (memory packed.old mm.old ml.old lengths)
         × (lengths.seq ≤ length seq.old) × (lengths.seq ≤ length after.old) }
     ensures { let m = memory packed.old mm.old ml.old lengths in
@@ -91,7 +97,7 @@ pub fn drop_with(
     places: &[u32],
     seq: &mut [u8],
     marks: &mut [u8],
-) -> Stepped
+) -> Result<Lengths, Refusal>
     requires { OrderedStored has_ml (memory packed.old mm.old ml.old lengths)
         × (lengths.seq ≤ length seq.old) × (lengths.seq ≤ length marks.old) × Unmarked (length marks.old) marks.old }
     ensures { let m = memory packed.old mm.old ml.old lengths in
@@ -126,7 +132,7 @@ pub fn cut_with(
     front: u32,
     back: u32,
     seq: &mut [u8],
-) -> Stepped
+) -> Result<Lengths, Refusal>
     requires { OrderedStored has_ml (memory packed.old mm.old ml.old lengths) × (lengths.seq ≤ length seq.old) }
     ensures { let m = memory packed.old mm.old ml.old lengths in
         came (step_says result) packed.new mm.new ml.new

@@ -1,12 +1,12 @@
 -- A strand's spots in the order of the walk, place by place; and the strand's group and tag in terms of its spots.
 -- Assumes nothing.
+use Rattle.std.specs.Prelude.{Option, None, Some}
 use mathlib.Core.Path.{◌∙◌, ◌≡◌, ap, sym}
 use Prim.Native.Nat.{◌+◌, ◌<◌, ◌≤◌, ℕ}
 use native.Mathlib.Numerals.{add-one}
 use native.Mathlib.Omega.{arith}
 use mathlib.Core.Bool.{false, true}
 use mathlib.Core.List.{List, [], ◌++◌, ◌∷◌, append-nil}
-use mathlib.Core.Option.{Option, none, some}
 use lib.ListN.{drop_of_length-le, get_or, length, length-append, length-map}
 use lib.Seq.{sets}
 use Rattle.lent.proofs.Lists.{concat_map_append, drop_here}
@@ -23,8 +23,7 @@ use Rattle.samtags.specs.Building.{Evidence, called, called_at, header_of, spot_
 use Rattle.samtags.specs.Bytes.{semicolon}
 use Rattle.samtags.specs.Spots.{Spot, bare, call, places_from, values_of}
 use Rattle.samtags.specs.Writing.{entries_text, group_text, ml_of, skips_from, text_of, written}
-use Rattle.strand.specs.Walk.{called_says, spots_at, spots_from}
-use Rattle.strand.specs.declared.Called.{Called}
+use Rattle.strand.specs.Walk.{spots_at, spots_from}
 
 module _ (mode : MethylationMode) (p : ConversionPattern) (ev : Evidence) (seq : List ℕ) where
   pub spots_on : (i : ℕ) → i < length seq → spots_from mode p ev seq i ≡ spots_at mode p ev seq i ++ spots_from mode p ev seq (i + 1)
@@ -84,25 +83,25 @@ module _ (mode : MethylationMode) (p : ConversionPattern) (ev : Evidence) (seq :
   one_value i = by-test (same_in_any_case (letter_of p) (get_or seq i 0)) (λ e. rw e (of (called_at mode ev i))) (λ e. rw e (omega arith))
     where
       of : (v : Option ℕ) → length (concat_map values_of (spot_at v i ∷ [])) ≤ 1
-      of none = omega arith
-      of (some v) = omega arith
+      of None = omega arith
+      of (Some v) = omega arith
 
   pub untracked : (i : ℕ) → same_in_any_case (letter_of p) (get_or seq i 0) ≡ false → spots_at mode p ev seq i ≡ []
   unfolding spots_at
   untracked i e = rw e
 
-  pub bare_there : (i : ℕ) → same_in_any_case (letter_of p) (get_or seq i 0) ≡ true → called_at mode ev i ≡ none → spots_at mode p ev seq i ≡ bare i ∷ []
+  pub bare_there : (i : ℕ) → same_in_any_case (letter_of p) (get_or seq i 0) ≡ true → called_at mode ev i ≡ None → spots_at mode p ev seq i ≡ bare i ∷ []
   unfolding spots_at
   bare_there i e f = rw (e, f)
 
-  pub call_there : (i v : ℕ) → same_in_any_case (letter_of p) (get_or seq i 0) ≡ true → called_at mode ev i ≡ some v
+  pub call_there : (i v : ℕ) → same_in_any_case (letter_of p) (get_or seq i 0) ≡ true → called_at mode ev i ≡ Some v
       → spots_at mode p ev seq i ≡ call i (v ∷ []) ∷ []
   unfolding spots_at
   call_there i v e f = rw (e, f)
 
   -- by what the code found at the place
-  pub found_there : (i : ℕ) (w : Called) (v : Option ℕ)
-      → called_says w ≡ called mode (get_or ev.informative i 0) (get_or ev.unconverted i 0) (get_or ev.converted i 0) → called_says w ≡ v
+  pub found_there : (i : ℕ) (w : Option ℕ) (v : Option ℕ)
+      → w ≡ called mode (get_or ev.informative i 0) (get_or ev.unconverted i 0) (get_or ev.converted i 0) → w ≡ v
       → called_at mode ev i ≡ v
   unfolding called_at
   found_there i w v e t = sym e ∙ t

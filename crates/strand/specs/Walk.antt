@@ -1,21 +1,12 @@
--- The spots that places of SEQ give to a strand's group, and the meaning of the code's answers. These are contracts of support functions; no promise
--- rests on them.
+-- The spots that places of SEQ give to a strand's group. These are contracts of support functions; no promise rests on them.
 -- Assumes nothing.
 use Rattle.std.specs.Prelude.{ℕ, cond, List, [], ◌∷◌, map, get_or, drop}
-use Rattle.std.proofs.Math.Option.{Option, none, some}
 use Rattle.pattern.specs.Case.{same_in_any_case}
 use Rattle.pattern.specs.Patterns.{letter_of}
 use Rattle.pattern.specs.declared.ConversionPattern.{ConversionPattern}
 use Rattle.pattern.specs.declared.MethylationMode.{MethylationMode}
 use Rattle.samtags.specs.Spots.{Spot, places_from}
 use Rattle.samtags.specs.Building.{Evidence, called_at, spot_at}
-use Rattle.strand.specs.declared.Called.{Called}
-use Rattle.strand.specs.declared.Called.TheVariants.{Value, Nothing}
-
--- the value of a call, if there is one
-abbrev pub called_says : Called → Option ℕ
-called_says (Value v) = some v
-called_says Nothing = none
 
 -- the strand's spots from place i of SEQ on
 unfoldable pub spots_from : MethylationMode → ConversionPattern → Evidence → List ℕ → ℕ → List Spot

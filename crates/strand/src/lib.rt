@@ -11,19 +11,12 @@ ghost use Rattle.samtags.specs.Spots.{values_of};
 ghost use Rattle.samtags.specs.Writing.{skips_from, entries_text, written};
 ghost use Rattle.samtags.specs.Building.{numerator, ml_value, called, columns, header_of, strand_group, own_tag, evidence_in_domain, evidence_agrees};
 ghost use Rattle.samtags.proofs.Skips.{bare_since};
-ghost use Rattle.strand.specs.Walk.{called_says, spots_from, spots_at};
+ghost use Rattle.strand.specs.Walk.{spots_from, spots_at};
 
 use pattern::{ConversionPattern, MethylationMode};
 
 // The most bases of SEQ, and the most entries of a column.
 const POSITIONS: usize = 16000;
-
-// The ML value of the call at a place, if there is one.
-#[derive(Clone, Copy)]
-pub enum Called {
-    Value(u8),
-    Nothing,
-}
 
 // The state of a writer: the number of bases of the group's letter since the last call, the next byte of the text, the next value of ML.
 #[derive(Clone, Copy)]
@@ -93,17 +86,17 @@ fn ml_value(speaking: u32, total: u64) -> u8
 }
 
 // The value of a call, if the place is informative and a read was counted there.
-fn call_of(mode: MethylationMode, informative: u8, unconverted: u32, converted: u32) -> Called
-    ensures { called_says result ≡ called mode informative unconverted converted }
+fn call_of(mode: MethylationMode, informative: u8, unconverted: u32, converted: u32) -> Option<u8>
+    ensures { result ≡ called mode informative unconverted converted }
 {
     if informative == 0 {
-        return Called::Nothing;
+        return None;
     }
     let total = unconverted as u64 + converted as u64;
     if total == 0 {
-        return Called::Nothing;
+        return None;
     }
-    Called::Value(ml_value(numerator(mode, unconverted, converted), total))
+    Some(ml_value(numerator(mode, unconverted, converted), total))
 }
 
 // Writes an entry: a comma, the skip, and the call's value in ML.
@@ -152,13 +145,12 @@ fn pass_place(
     if !same {
         return pen;
     }
-    let found = call_of(
+    let Some(value) = call_of(
         mode,
         informative[place],
         unconverted[place],
         converted[place],
-    );
-    let Called::Value(value) = found else {
+    ) else {
         return Pen {
             skip: pen.skip + 1,
             text: pen.text,
@@ -193,8 +185,7 @@ fn put_entries(
         text: at,
         values: 0,
     };
-    let mut place = 0;
-    while place < seq.len() {
+    for place in 0..seq.len() {
         pen = pass_place(
             seq,
             informative,
@@ -207,7 +198,6 @@ fn put_entries(
             text,
             ml,
         );
-        place += 1;
     }
     pen
 }

@@ -34,13 +34,13 @@ holds_own b x n = rw (ne_eqb b 78 n)
 
 -- ---- one byte more
 
--- of the bytes from a place on, how many are the base
-pub count_on : (b : ℕ) → (b ≡ 78 → ⊥) → (seq : List ℕ) (from i : ℕ) → from + i < length seq
-    → length (filter (holds b) (take (i + 1) (drop from seq))) ≡ length (filter (holds b) (take i (drop from seq))) + bool_byte (eqb (get_or seq (from + i) 0) b)
-count_on b n seq from i h =
-    count_more (holds b) (drop from seq) i 0 (omega (arith, length-drop from seq))
-    ∙ ap (λ (t : Bool). length (filter (holds b) (take i (drop from seq))) + cond t 1 0) (ap (holds b) (get_or-drop from seq i 0) ∙ holds_own b (get_or seq (from + i) 0) n)
-    ∙ ap (λ (k : ℕ). length (filter (holds b) (take i (drop from seq))) + k) (sym (as_number (eqb (get_or seq (from + i) 0) b)))
+-- how many are the base
+pub count_on : (b : ℕ) → (b ≡ 78 → ⊥) → (l : List ℕ) (i : ℕ) → i < length l
+    → length (filter (holds b) (take (i + 1) l)) ≡ length (filter (holds b) (take i l)) + bool_byte (eqb (get_or l i 0) b)
+count_on b n l i h =
+    count_more (holds b) l i 0 h
+    ∙ ap (λ (t : Bool). length (filter (holds b) (take i l)) + cond t 1 0) (holds_own b (get_or l i 0) n)
+    ∙ ap (λ (k : ℕ). length (filter (holds b) (take i l)) + k) (sym (as_number (eqb (get_or l i 0) b)))
 
 both_append : (b : ℕ) (xs ys : List ℕ) (x y : ℕ) → length xs ≡ length ys
     → hold_both b (xs ++ x ∷ []) (ys ++ y ∷ []) ≡ hold_both b xs ys + cond (holds b x && holds b y) 1 0

@@ -26,12 +26,11 @@ fn count_block(seq: &[u8], from: usize, size: usize, base: u8) -> usize
     requires { (from + size ≤ length seq.now) × (size ≤ 128) × (base ≡ 78 → ⊥) }
     ensures { result ≡ length (filter (holds base) (take size (drop from seq.now))) }
 {
+    let block = &seq[from..from + size];
     let mut n: u8 = 0;
-    let mut i = 0;
-    while i < size {
-        let hit = seq[from + i] == base;
+    for &b in block {
+        let hit = b == base;
         n = n + hit as u8;
-        i += 1;
     }
     n as usize
 }
@@ -42,12 +41,10 @@ fn both_in_block(seq: &[u8], from: usize, after: &[u8], there: usize, base: u8) 
     ensures { result ≡ hold_both base (take 32 (drop from seq.now)) (take 32 (drop there after.now)) }
 {
     let mut n: u8 = 0;
-    let mut i = 0;
-    while i < 32 {
+    for i in 0..32 {
         let first = seq[from + i] == base;
         let second = after[there + i] == base;
         n = n + (first & second) as u8;
-        i += 1;
     }
     n as usize
 }
@@ -121,21 +118,22 @@ pub fn pass_blocks(
     let mut place = from;
     let mut passed = 0;
     let mut held = 0;
+    // A cursor, not a count: how far it goes depends on what each block holds.
     while is_far(skip - passed, seq.len() - place) {
         let split = is_split(place, window, after.len());
         let n = count_block(seq, place, 32, base);
         if split {
             return Stride {
-                place: place,
-                passed: passed,
-                held: held,
+                place,
+                passed,
+                held,
             };
         }
         if skip - passed < n {
             return Stride {
-                place: place,
-                passed: passed,
-                held: held,
+                place,
+                passed,
+                held,
             };
         }
         held = held + held_in_block(seq, after, window, base, place, n);
@@ -143,9 +141,9 @@ pub fn pass_blocks(
         place = place + 32;
     }
     Stride {
-        place: place,
-        passed: passed,
-        held: held,
+        place,
+        passed,
+        held,
     }
 }
 
@@ -169,6 +167,7 @@ pub fn how_many(seq: &[u8], base: u8) -> usize
     }
     let mut n = 0;
     let mut i = 0;
+    // A cursor, not a count: it goes on by a block, and what is left is shorter than one.
     while 128 <= seq.len() - i {
         n = n + count_block(seq, i, 128, base);
         i = i + 128;

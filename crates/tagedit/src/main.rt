@@ -22,6 +22,7 @@ fn read_full<R: Read>(from: &mut R, row: &mut [u8]) -> io::Result<usize>
     ensures bytes { IfOk result (λ n. IfSome (R.remaining from.old) (λ xs. take n row.new ≡ take (length row.old) xs)) }
 {
     let mut done = 0;
+    // A cursor, not a count: a read gives as many bytes as it gives.
     while done < row.len() {
         let n = from.read(&mut row[done..])?;
         if n == 0 {

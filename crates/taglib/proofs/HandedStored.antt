@@ -1,9 +1,9 @@
 -- Handing on the answers of the calls on a stored read: the number of the definition, the lent numbers, and the rows.
 -- Assumes nothing.
+use Rattle.std.specs.Prelude.{Option}
 use Prim.Native.Nat.{ℕ}
 use mathlib.Core.Bool.{Bool}
 use mathlib.Core.List.{List}
-use mathlib.Core.Option.{Option}
 use mathlib.Core.Path.{◌≡◌, ◌∙◌, ap}
 use lib.ListN.{length}
 use Rattle.editing.specs.Rewrote.{leaves_tag, rewrote}

@@ -1,7 +1,6 @@
 // MM and ML from a consensus and its evidence, for one strand.
 ghost use Rattle.taglib.specs.BuildingContracts.{BuildsInC, BuildsTextInC};
 
-use modes::Mode;
 use pattern::ConversionPattern;
 
 // A strand's MM text and ML.
@@ -23,7 +22,7 @@ pub extern "C" fn aql_build_mm_ml_tags(
         result mm.new ml.new mm_len.new ml_len.new }
 {
     match modes::mode_of(mode) {
-        Mode::Known(chosen) => {
+        Ok(chosen) => {
             let answer = building::build_mm_ml_tags(
                 consensus_bases,
                 informative,
@@ -34,9 +33,9 @@ pub extern "C" fn aql_build_mm_ml_tags(
                 mm,
                 ml,
             );
-            telling::tags::tagged(answer, mm_len, ml_len)
+            telling::both(answer, mm_len, ml_len)
         }
-        Mode::Refused(refusal) => refusal.0,
+        Err(refusal) => refusal.number(),
     }
 }
 
@@ -56,7 +55,7 @@ pub extern "C" fn aql_build_mm_tag_no_ml(
         read_flags mode mm.old mm_len.old result mm.new mm_len.new }
 {
     match modes::mode_of(mode) {
-        Mode::Known(chosen) => {
+        Ok(chosen) => {
             let answer = building::build_mm_tag_no_ml(
                 consensus_bases,
                 informative,
@@ -68,6 +67,6 @@ pub extern "C" fn aql_build_mm_tag_no_ml(
             );
             telling::written(answer, mm_len)
         }
-        Mode::Refused(refusal) => refusal.0,
+        Err(refusal) => refusal.number(),
     }
 }

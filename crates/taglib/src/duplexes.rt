@@ -2,7 +2,6 @@
 ghost use Rattle.duplex.specs.PublicContracts.{eleven_rows};
 ghost use Rattle.taglib.specs.DuplexContracts.{DuplexesInC, strand_in_c};
 
-use modes::Mode;
 use pattern::ConversionPattern;
 
 // Writes SEQ restored by each strand, the joined MM and ML of both, the combined counts, and each strand's own text and counts. The length of each
@@ -47,7 +46,7 @@ pub extern "C" fn aql_duplex_methylation_tags(
         lengths.new }
 {
     match modes::mode_of(mode) {
-        Mode::Known(chosen) => {
+        Ok(chosen) => {
             let answer = duplex::duplex_methylation_tags(
                 bases,
                 strands,
@@ -74,6 +73,6 @@ pub extern "C" fn aql_duplex_methylation_tags(
             );
             telling_strands::joined(answer, lengths)
         }
-        Mode::Refused(refusal) => refusal.0,
+        Err(refusal) => refusal.number(),
     }
 }

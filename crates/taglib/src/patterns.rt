@@ -1,7 +1,6 @@
 // Bytes, patterns and the chemistry.
 ghost use Rattle.taglib.specs.PatternContracts.{UppercasesInC, ComparesInC, FindsPatternInC, NamesBasesInC, NamesLetterInC, NamesSignInC, TellsEnabledInC};
 
-use modes::Mode;
 use pattern::ConversionPattern;
 
 // The byte in upper case.
@@ -69,10 +68,10 @@ pub extern "C" fn aql_mode_is_enabled(mode: u8, enabled: &mut u8) -> u8
     ensures { TellsEnabledInC mode enabled.old result enabled.new }
 {
     match modes::mode_of(mode) {
-        Mode::Known(chosen) => {
+        Ok(chosen) => {
             *enabled = chosen.is_enabled() as u8;
             0
         }
-        Mode::Refused(refusal) => refusal.0,
+        Err(refusal) => refusal.number(),
     }
 }

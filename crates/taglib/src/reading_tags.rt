@@ -15,7 +15,7 @@ pub extern "C" fn aql_check_tag(
         result groups.new calls.new }
 {
     let answer = reading::check_tag(seq, mm, ml, has_ml != 0);
-    telling::readings::read(answer, groups, calls)
+    telling::both(answer, groups, calls)
 }
 
 // Writes the calls of a tag in order into three columns: group, place, and the index of the call's first value in ML.
@@ -44,7 +44,7 @@ pub extern "C" fn aql_read_calls(
         call_places,
         call_starts,
     );
-    telling::readings::read(answer, groups, calls)
+    telling::both(answer, groups, calls)
 }
 
 // How many values of a tag's ML are above (128 or more) and how many below. It always takes an ML.
@@ -60,5 +60,5 @@ pub extern "C" fn aql_tally(
         result above.new below.new }
 {
     let answer = reading::tally(seq, mm, ml);
-    telling::readings::counted(answer, above, below)
+    telling::both(answer, above, below)
 }

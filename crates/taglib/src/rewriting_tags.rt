@@ -27,7 +27,7 @@ pub extern "C" fn aql_drop_masked_modifications(
         mm_out,
         ml_out,
     );
-    telling::tags::tagged(answer, mm_out_len, ml_out_len)
+    telling::both(answer, mm_out_len, ml_out_len)
 }
 
 // Drops the calls at the places. SEQ stays, so their bases still count in later skips.
@@ -48,7 +48,7 @@ pub extern "C" fn aql_drop_modifications_at(
         result mm_out.new ml_out.new mm_out_len.new ml_out_len.new }
 {
     let answer = rewriting::drop_modifications_at(seq, places, mm, ml, has_ml != 0, mm_out, ml_out);
-    telling::tags::tagged(answer, mm_out_len, ml_out_len)
+    telling::both(answer, mm_out_len, ml_out_len)
 }
 
 // SEQ was cut: `after` is the part of `before` that begins at the start, in which a base may be masked by N or n.
@@ -81,5 +81,5 @@ pub extern "C" fn aql_trim_clipped_modifications(
         mm_out,
         ml_out,
     );
-    telling::tags::tagged(answer, mm_out_len, ml_out_len)
+    telling::both(answer, mm_out_len, ml_out_len)
 }

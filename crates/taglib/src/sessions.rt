@@ -18,7 +18,7 @@ pub extern "C" fn aql_session_open(
 {
     let held = telling_steps::lengths_in(lengths);
     let answer = session::open(seq, mm, ml, has_ml != 0, held);
-    telling::readings::read(answer, groups, calls)
+    telling::both(answer, groups, calls)
 }
 
 // Masks: writes N at the listed places of SEQ. Calls on these bases go, and the bases count in no later skip, except in a group on N.

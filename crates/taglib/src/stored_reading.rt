@@ -42,7 +42,7 @@ pub extern "C" fn aql_stored_check_tag(
         groups.old calls.old result groups.new calls.new }
 {
     let answer = stored::check_tag(packed, bases, reverse != 0, mm, ml, has_ml != 0);
-    telling::readings::read(answer, groups, calls)
+    telling::both(answer, groups, calls)
 }
 
 // Writes the calls of a stored read's tag into three columns: group, place in the stored read, and the index of the call's first value in ML.
@@ -75,7 +75,7 @@ pub extern "C" fn aql_stored_read_calls(
         call_places,
         call_starts,
     );
-    telling::readings::read(answer, groups, calls)
+    telling::both(answer, groups, calls)
 }
 
 // How many values of the ML of a stored read's tag are above (128 or more) and how many below. It always takes an ML.
@@ -93,5 +93,5 @@ pub extern "C" fn aql_stored_tally(
         result above.new below.new }
 {
     let answer = stored::tally(packed, bases, reverse != 0, mm, ml);
-    telling::readings::counted(answer, above, below)
+    telling::both(answer, above, below)
 }

@@ -33,7 +33,7 @@ pub extern "C" fn aql_stored_drop_masked_modifications(
         mm_out,
         ml_out,
     );
-    telling::tags::tagged(answer, mm_out_len, ml_out_len)
+    telling::both(answer, mm_out_len, ml_out_len)
 }
 
 // Drops the calls at places of the stored read. SEQ stays, so their bases still count in later skips.
@@ -66,7 +66,7 @@ pub extern "C" fn aql_stored_drop_modifications_at(
         mm_out,
         ml_out,
     );
-    telling::tags::tagged(answer, mm_out_len, ml_out_len)
+    telling::both(answer, mm_out_len, ml_out_len)
 }
 
 // The stored SEQ was cut: `after` is the part of `before` that begins at the start, in which a base may be masked by N.
@@ -106,5 +106,5 @@ pub extern "C" fn aql_stored_trim_clipped_modifications(
         mm_out,
         ml_out,
     );
-    telling::tags::tagged(answer, mm_out_len, ml_out_len)
+    telling::both(answer, mm_out_len, ml_out_len)
 }

@@ -20,7 +20,7 @@ pub extern "C" fn aql_stored_open(
 {
     let held = telling_steps::lengths_in(lengths);
     let answer = stored_session::open(packed, reverse != 0, mm, ml, has_ml != 0, held);
-    telling::readings::read(answer, groups, calls)
+    telling::both(answer, groups, calls)
 }
 
 // Masks: writes N at the listed places of the stored read. Calls on these bases go, and the bases count in no later skip, except in a group on N.

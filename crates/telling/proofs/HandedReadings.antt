@@ -9,6 +9,8 @@ use Rattle.lent.specs.Filled.{leaves}
 use Rattle.lent.specs.Outcome.{Outcome, number_of, on_done}
 use Rattle.samtags.specs.Spots.{Listing}
 use Rattle.samtags.specs.Reading.{call_list, Tally}
+use Rattle.reading.specs.Answers.{tally_says}
+use Rattle.std.specs.Prelude.{Ok, Err}
 use Rattle.reading.specs.Calls.{CallsRead, calls_read, counts_of, group_column, listed_calls, place_column, read_calls, start_column}
 use Rattle.telling.specs.Told.{told}
 use Rattle.telling.proofs.Handed.{number_handed, told_handed}
@@ -43,11 +45,8 @@ calls_handed ml? seq text ml gs₀ ps₀ ss₀ g₀ c₀ e h =
     let t = read_handed o g₀ c₀ (ap (λ (y : CallsRead). y.answer) e) h in
     (t.0, t.1, t.2, ap (λ (y : CallsRead). y.groups) e, ap (λ (y : CallsRead). y.places) e, ap (λ (y : CallsRead). y.starts) e)
 
-pub tally_handed : (o : Outcome Tally) (a₀ b₀ : ℕ) {w : Outcome Tally} {r a b : ℕ} → w ≡ o
-    → (r ≡ number_of w) × (a ≡ told (λ (t : Tally). t.above) w a₀) × (b ≡ told (λ (t : Tally). t.below) w b₀)
+-- the tally's two numbers, of which the answer is the pair
+pub tally_handed : (o : Outcome Tally) (a₀ b₀ : ℕ) (w : Outcome (ℕ × ℕ)) {r a b : ℕ} → tally_says w ≡ o → ReadTold w r a₀ a b₀ b
     → (r ≡ number_of o) × (a ≡ told (λ (t : Tally). t.above) o a₀) × (b ≡ told (λ (t : Tally). t.below) o b₀)
-tally_handed o a₀ b₀ e h = (
-  h.0 ∙ ap number_of e,
-  h.1 ∙ ap (λ (v : Outcome Tally). told (λ (t : Tally). t.above) v a₀) e,
-  h.2 ∙ ap (λ (v : Outcome Tally). told (λ (t : Tally). t.below) v b₀) e,
-)
+tally_handed o a₀ b₀ (Ok (a, b)) e h = rw (← e) h
+tally_handed o a₀ b₀ (Err q) e h = rw (← e) h

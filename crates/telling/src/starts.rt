@@ -1,15 +1,12 @@
 // A window's start from two numbers: whether it is known, and where it is.
 ghost use Rattle.std.specs.Prelude.{◌≡◌};
-ghost use Rattle.rewriting.specs.Starts.{start_says};
 ghost use Rattle.telling.specs.Starts.{given_start};
 
-use rewriting::WindowStart;
-
-pub fn window_start(known: u8, start: usize) -> WindowStart
-    ensures { start_says result ≡ given_start known start }
+pub fn window_start(known: u8, start: usize) -> Option<usize>
+    ensures { result ≡ given_start known start }
 {
     if known == 0 {
-        return WindowStart::Unknown;
+        return None;
     }
-    WindowStart::Known(start)
+    Some(start)
 }

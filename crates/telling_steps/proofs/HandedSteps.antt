@@ -1,10 +1,11 @@
 -- Handing on the answers of a session's opening and of its steps: the number of the definition, the lengths, and the three rows.
 -- Assumes nothing.
+use Rattle.std.specs.Prelude.{Ok, Err}
 use Prim.Native.Nat.{ℕ}
 use mathlib.Core.Bool.{Bool}
 use mathlib.Core.List.{List}
 use mathlib.Core.Path.{◌≡◌, ◌∙◌, ap}
-use Rattle.lent.specs.Outcome.{Outcome, refused, done, number_of, on_done}
+use Rattle.lent.specs.Outcome.{Outcome, number_of, on_done}
 use Rattle.reading.specs.Calls.{counts_of}
 use Rattle.samtags.specs.Session.{Lengths, Memory, Step, open_session, step_in_memory}
 use Rattle.stepping.specs.Steps.{Came, came, leaves_memory, memory}
@@ -31,14 +32,14 @@ StepTold m o r row₀ row seq text ml =
 pub came_told : (m : Memory) (o : Outcome Memory) (row₀ : List ℕ) {w : Outcome Lengths} {r : ℕ} {row seq text ml : List ℕ}
     → came w seq text ml ≡ leaves_memory m o → (r ≡ number_of w) × (row ≡ told length_row w row₀) → StepTold m o r row₀ row seq text ml
 unfolding leaves_memory
-came_told m (refused s) row₀ e h = (
+came_told m (Err s) row₀ e h = (
   h.0 ∙ ap (λ (y : Came). number_of y.answer) e,
   h.1 ∙ ap (λ (y : Came). told length_row y.answer row₀) e,
   ap (λ (y : Came). y.seq) e,
   ap (λ (y : Came). y.text) e,
   ap (λ (y : Came). y.ml) e,
 )
-came_told m (done n) row₀ e h = (
+came_told m (Ok n) row₀ e h = (
   h.0 ∙ ap (λ (y : Came). number_of y.answer) e,
   h.1 ∙ ap (λ (y : Came). told length_row y.answer row₀) e,
   ap (λ (y : Came). y.seq) e,

@@ -7,7 +7,8 @@ ghost use Rattle.stepping.specs.Steps.{step_says};
 ghost use Rattle.telling.specs.Told.{told};
 ghost use Rattle.telling_steps.specs.Lengths.{lengths_in, length_row};
 
-use stepping::{Lengths, Stepped};
+use lent::Refusal;
+use stepping::Lengths;
 
 pub fn lengths_in(row: &[usize; 3]) -> Lengths
     ensures { result ≡ lengths_in row.now }
@@ -19,15 +20,15 @@ pub fn lengths_in(row: &[usize; 3]) -> Lengths
     }
 }
 
-pub fn stepped(answer: Stepped, lengths: &mut [usize; 3]) -> u8
+pub fn stepped(answer: Result<Lengths, Refusal>, lengths: &mut [usize; 3]) -> u8
     ensures { (result ≡ number_of (step_says answer))
         × (lengths.new ≡ told length_row (step_says answer) lengths.old) }
 {
     match answer {
-        Stepped::Done(held) => {
+        Ok(held) => {
             *lengths = [held.seq, held.mm, held.ml];
             0
         }
-        Stepped::Refused(refusal) => refusal.0,
+        Err(refusal) => refusal.number(),
     }
 }

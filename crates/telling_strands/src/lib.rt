@@ -3,18 +3,18 @@
 
 ghost use Rattle.std.specs.Prelude.{◌≡◌};
 ghost use Rattle.lent.specs.Outcome.{number_of};
-ghost use Rattle.duplex.specs.Answers.{duplex_says};
 ghost use Rattle.telling.specs.Told.{told};
 ghost use Rattle.telling_strands.specs.Strands.{part_row};
 
-use duplex::Duplex;
+use duplex::Lengths;
+use lent::Refusal;
 
-pub fn joined(answer: Duplex, lengths: &mut [usize; 11]) -> u8
-    ensures { (result ≡ number_of (duplex_says answer))
-        × (lengths.new ≡ told part_row (duplex_says answer) lengths.old) }
+pub fn joined(answer: Result<Lengths, Refusal>, lengths: &mut [usize; 11]) -> u8
+    ensures { (result ≡ number_of answer)
+        × (lengths.new ≡ told part_row answer lengths.old) }
 {
     match answer {
-        Duplex::Done(parts) => {
+        Ok(parts) => {
             *lengths = [
                 parts.seq,
                 parts.mm,
@@ -30,6 +30,6 @@ pub fn joined(answer: Duplex, lengths: &mut [usize; 11]) -> u8
             ];
             0
         }
-        Duplex::Refused(refusal) => refusal.0,
+        Err(refusal) => refusal.number(),
     }
 }

@@ -1,33 +1,28 @@
 -- The opening: the result of the first lines of the input, by their marks; and the desk after SEQ, the text and ML are laid on it.
 -- Assumes nothing.
+use Rattle.std.specs.Prelude.{Ok, Err, None, Some}
 use mathlib.Core.Path.{◌≡◌, refl, sym, ap, ◌∙◌}
 use Prim.Native.Nat.{ℕ, ◌+◌, ◌≤◌, ◌<◌}
 use native.Mathlib.Omega.{arith}
 use mathlib.Core.Bool.{Bool, true, false, cond}
 use mathlib.Core.List.{List, [], ◌∷◌, ◌++◌}
-use mathlib.Core.Option.{none, some}
 use lib.ListN.{length, drop, take, length-drop}
 use lib.Seq.{length-sets, sets}
 use borrow.Author.Tests.{le-leb, lt-leb}
 use Rattle.lent.proofs.Filled.{over_front, over_stored}
 use Rattle.lent.proofs.Outcome.{need_test, on_done_inv, on_done_refused}
 use Rattle.lent.specs.Filled.{over}
-use Rattle.lent.specs.Outcome.{Outcome, done, number_of, on_done, refused}
+use Rattle.lent.specs.Outcome.{Outcome, number, on_done}
 use Rattle.lent.specs.declared.Refusal.{Refusal}
-use Rattle.samtags.proofs.TableNumbers.{read_tag_in_table}
 use Rattle.samtags.proofs.Taken.{in_domain_lem}
 use Rattle.samtags.specs.Reading.{in_domain, read_tag}
 use Rattle.samtags.specs.Session.{held_in}
-use Rattle.samtags.specs.Spots.{Listing}
 use Rattle.samtags.specs.Text.{up_to}
 use Rattle.operands.proofs.SizeLaws.{values_short}
 use Rattle.lines.proofs.UpToLaws.{line_at, no_line_at}
 use Rattle.operands.specs.Answers.{values_in}
 use Rattle.lines.specs.Lines.{answer_line, body_of, given, has_mark, lines_of, values_of}
-use Rattle.reading.specs.Answers.{reading_says}
 use Rattle.reading.specs.Calls.{counts_of}
-use Rattle.reading.specs.declared.Reading.{Reading}
-use Rattle.reading.specs.declared.Reading.TheVariants as reading
 use Rattle.stepping.specs.Steps.{Ordered, memory}
 use Rattle.stepping.specs.declared.Lengths.{Lengths}
 use Rattle.transcript.proofs.Room.{room}
@@ -40,35 +35,25 @@ use Rattle.transcript.specs.Transcript.{from_first, from_second, from_third, ope
 
 module _ (ml? : Bool) (seq text ml : List ℕ) (ls : List (List ℕ)) where
   -- what was read, by what the reader says of it
-  module _ (r : Reading) (e : reading_says r ≡ on_done counts_of (read_tag ml? seq text ml)) where
-    pub opening_number : number_of (reading_says r) ≡ number_of (read_tag ml? seq text ml)
-    opening_number = ap number_of e ∙ go (read_tag ml? seq text ml)
-      where
-        go : (o : Outcome (List Listing)) → number_of (on_done counts_of o) ≡ number_of o
-        go (refused q) = refl
-        go (done l) = refl
-
-    pub opening_small : number_of (reading_says r) ≤ 255
-    opening_small = omega (arith, opening_number, read_tag_in_table ml? seq text ml)
-
-    pub opening_refused : (q : Refusal) → r ≡ reading.Refused q → opened_on ml? seq text ml ls ≡ answer_line (number_of (reading_says r))
+  module _ (r : Outcome (ℕ × ℕ)) (e : r ≡ on_done counts_of (read_tag ml? seq text ml)) where
+    pub opening_refused : (q : Refusal) → r ≡ Err q → opened_on ml? seq text ml ls ≡ answer_line (number q)
     unfolding opened_on opened
     opening_refused q f =
-        let o : read_tag ml? seq text ml ≡ refused q = on_done_refused counts_of (read_tag ml? seq text ml) q (sym e ∙ ap reading_says f) in
-        rw (o, f)
+        let o : read_tag ml? seq text ml ≡ Err q = on_done_refused counts_of (read_tag ml? seq text ml) q (sym e ∙ f) in
+        rw o
 
-    pub opening_done : (g c : ℕ) → r ≡ reading.Done g c
+    pub opening_done : (p : ℕ × ℕ) → r ≡ Ok p
         → opened_on ml? seq text ml ls ≡ answer_line 0 ++ after_opening ml? ls (record { seq = seq; text = text; ml = ml })
     unfolding opened_on opened
-    opening_done g c f =
-        let o = on_done_inv counts_of (read_tag ml? seq text ml) (g, c) (sym e ∙ ap reading_says f) in
+    opening_done p f =
+        let o = on_done_inv counts_of (read_tag ml? seq text ml) p (sym e ∙ f) in
         rw o.1
 
     -- what is opened is within the domain
-    pub opening_fits : (g c : ℕ) → r ≡ reading.Done g c → (length seq ≤ 16000) × (length text ≤ 65536) × (cond ml? (length ml) 0 ≤ 65536)
+    pub opening_fits : (p : ℕ × ℕ) → r ≡ Ok p → (length seq ≤ 16000) × (length text ≤ 65536) × (cond ml? (length ml) 0 ≤ 65536)
     unfolding read_tag
-    opening_fits g c f =
-        let o = on_done_inv counts_of (read_tag ml? seq text ml) (g, c) (sym e ∙ ap reading_says f) in
+    opening_fits p f =
+        let o = on_done_inv counts_of (read_tag ml? seq text ml) p (sym e ∙ f) in
         in_domain_lem ml? seq text ml (need_test (in_domain ml? seq text ml) 1 _ o.0 o.1)
 
 -- ---- the desk
@@ -100,16 +85,16 @@ module _ (bases text seq mm ml seq' mm' : List ℕ) (n : Lengths) (p : seq' ≡ 
 
 -- ---- the values of an ML line
 
-pub values_of_lem : (l vs : List ℕ) → values_in (body_of l) ≡ some vs → values_of l ≡ some vs
+pub values_of_lem : (l vs : List ℕ) → values_in (body_of l) ≡ Some vs → values_of l ≡ Some vs
 unfolding values_of
 values_of_lem l vs e = e
 
-pub no_values_of : (l : List ℕ) → values_in (body_of l) ≡ none → values_of l ≡ none
+pub no_values_of : (l : List ℕ) → values_in (body_of l) ≡ None → values_of l ≡ None
 unfolding values_of
 no_values_of l e = e
 
 -- they have room, and are at the front of their row
-pub values_fit : (l vs : List ℕ) → values_of l ≡ some vs → length l ≤ 65536 → length vs ≤ 32768
+pub values_fit : (l vs : List ℕ) → values_of l ≡ Some vs → length l ≤ 65536 → length vs ≤ 32768
 values_fit l vs e h = omega (arith, (values_short l vs e).few, length-drop 2 l)
 
 pub values_stored : (vs row row' : List ℕ) (n : ℕ) → n ≡ length vs → row' ≡ sets row 0 vs → length vs ≤ length row → take n row' ≡ vs
@@ -162,11 +147,11 @@ module _ (input : List ℕ) (place : ℕ) where
             ∙ ap (opened_on false seq text []) (sym here)
 
         module _ (m : has_mark "ML" line ≡ true) where
-          pub third_bad : values_of line ≡ none → from_third seq text (lines_of (drop place input)) ≡ answer_line 13
+          pub third_bad : values_of line ≡ None → from_third seq text (lines_of (drop place input)) ≡ answer_line 13
           unfolding from_third
           third_bad v = ap (from_third seq text) here ∙ rw (m, v)
 
-          pub third_values : (ml : List ℕ) → values_of line ≡ some ml
+          pub third_values : (ml : List ℕ) → values_of line ≡ Some ml
               → from_third seq text (lines_of (drop place input)) ≡ opened_on true seq text ml (lines_of (drop (place + length line + 1) input))
           unfolding from_third
           third_values ml v = ap (from_third seq text) here ∙ rw (m, v)

@@ -1,12 +1,12 @@
 -- What the transcript of a session tells. If every line after the opening asks for a step, the answers and the closing lines are those of the session. So
 -- they are what demand 3 says that a session means.
 -- Assumes nothing.
+use Rattle.std.specs.Prelude.{Ok, None, Some}
 use mathlib.Core.Path.{◌≡◌, refl, sym, ap, subst, ◌∙◌}
 use Prim.Native.Nat.{ℕ, ◌≤◌}
 use native.Mathlib.Omega.{arith}
 use mathlib.Core.Bool.{Bool, true, false, ◌&&◌}
 use mathlib.Core.List.{List, [], ◌∷◌, ◌++◌, append_assoc, map}
-use mathlib.Core.Option.{none, some}
 use lib.Dec.{eqb}
 use lib.ListN.{length, take}
 use borrow.Author.Tests.{eqb-true, le-leb}
@@ -14,7 +14,7 @@ use Rattle.lent.proofs.Filled.{over_front}
 use Rattle.lent.proofs.Outcome.{need_rest}
 use Rattle.lent.proofs.Tests.{and_true_l, and_true_r, by-test}
 use Rattle.lent.specs.Lists.{concat_map}
-use Rattle.lent.specs.Outcome.{done, number_of}
+use Rattle.lent.specs.Outcome.{number_of}
 use Rattle.samtags.proofs.SessionMeaning.{session_meaning}
 use Rattle.samtags.specs.Bytes.{ascii}
 use Rattle.samtags.specs.Meaning.{after_steps, answers_to, left_of_listing, left_of_seq, opening}
@@ -29,15 +29,15 @@ use Rattle.transcript.specs.PublicContracts.{Transcribes}
 use Rattle.transcript.specs.Transcript.{from_first, from_second, from_third, opened, opened_on, transcript_of}
 
 -- an answer for each step, and what is held after the last
-pub good_lines : (ml? : Bool) (ls : List (List ℕ)) (ts : List Step) (s : Held) → map step_of ls ≡ map some ts
+pub good_lines : (ml? : Bool) (ls : List (List ℕ)) (ts : List Step) (s : Held) → map step_of ls ≡ map Some ts
     → after_opening ml? ls s ≡ concat_map answer_line (answers ml? ts s) ++ closing ml? (run ml? ts s)
 unfolding after_opening answers run
 good_lines ml? [] [] s e = refl
 good_lines ml? [] (t ∷ ts) s e = let z : ◌≡◌ {A = ℕ} 0 1 = cc in absurd (omega arith)
 good_lines ml? (l ∷ ls) [] s e = let z : ◌≡◌ {A = ℕ} 0 1 = cc in absurd (omega arith)
 good_lines ml? (l ∷ ls) (t ∷ ts) s e =
-    let first : step_of l ≡ some t = cc in
-    let rest : map step_of ls ≡ map some ts = cc in
+    let first : step_of l ≡ Some t = cc in
+    let rest : map step_of ls ≡ map Some ts = cc in
     let next : Held = after_step s (stepped ml? t s) in
     rw first
     (ap (λ (r : List ℕ). answer_line (number_of (stepped ml? t s)) ++ r) (good_lines ml? ls ts next rest)
@@ -48,10 +48,10 @@ pub record Tells (ml? : Bool) (s : Held) (listed : List Listing) (ts : List Step
   pub held : Held
   pub printed : output ≡ answer_line 0 ++ (concat_map answer_line (answers_to listed ts (opening s.seq)) ++ closing ml? held)
   pub seq_then : held.seq ≡ left_of_seq (after_steps listed ts (opening s.seq)) s.seq
-  pub lists_then : lists ml? held.seq held.text held.ml ≡ done (map (left_of_listing (after_steps listed ts (opening s.seq))) listed)
+  pub lists_then : lists ml? held.seq held.text held.ml ≡ Ok (map (left_of_listing (after_steps listed ts (opening s.seq))) listed)
 
-pub session_told : (ml? : Bool) (seq text ml : List ℕ) (listed : List Listing) → read_tag ml? seq text ml ≡ done listed
-    → (ls : List (List ℕ)) (ts : List Step) → map step_of ls ≡ map some ts
+pub session_told : (ml? : Bool) (seq text ml : List ℕ) (listed : List Listing) → read_tag ml? seq text ml ≡ Ok listed
+    → (ls : List (List ℕ)) (ts : List Step) → map step_of ls ≡ map Some ts
     → Tells ml? (record { seq = seq; text = text; ml = ml }) listed ts (opened_on ml? seq text ml ls)
 unfolding opened_on opened read_tag
 session_told ml? seq text ml listed r ls ts e =
@@ -70,7 +70,7 @@ session_told ml? seq text ml listed r ls ts e =
 -- ---- the same of a whole input
 
 -- a line that is marked ML asks for no step
-ml_line : (l : List ℕ) → has_mark "ML" l ≡ true → step_of l ≡ none
+ml_line : (l : List ℕ) → has_mark "ML" l ≡ true → step_of l ≡ None
 ml_line [] e = let z : ◌≡◌ {A = ℕ} 0 1 = cc in absurd (omega arith)
 ml_line (x ∷ []) e = let h = marked_long (x ∷ []) 77 76 e in absurd (omega arith)
 ml_line (x ∷ y ∷ ys) e =
@@ -79,15 +79,15 @@ ml_line (x ∷ y ∷ ys) e =
     rw (a, b) (asks_nothing (77 ∷ 76 ∷ ys) refl refl refl)
 
 -- SQ and MM, and no ML behind them
-third_is_a_step : (seq text : List ℕ) (ls : List (List ℕ)) (ts : List Step) → map step_of ls ≡ map some ts
+third_is_a_step : (seq text : List ℕ) (ls : List (List ℕ)) (ts : List Step) → map step_of ls ≡ map Some ts
     → from_third seq text ls ≡ opened_on false seq text [] ls
 unfolding from_third
 third_is_a_step seq text [] ts e = refl
 third_is_a_step seq text (l ∷ ls) [] e = let z : ◌≡◌ {A = ℕ} 0 1 = cc in absurd (omega arith)
 third_is_a_step seq text (l ∷ ls) (t ∷ ts) e =
-    let first : step_of l ≡ some t = cc in
+    let first : step_of l ≡ Some t = cc in
     by-test (has_mark "ML" l)
-    (λ m. let none-asked : step_of l ≡ none = ml_line l m in let z : ◌≡◌ {A = ℕ} 0 1 = cc in absurd (omega arith))
+    (λ m. let none-asked : step_of l ≡ None = ml_line l m in let z : ◌≡◌ {A = ℕ} 0 1 = cc in absurd (omega arith))
     (λ m. rw m)
 
 -- `transcript` on an input of at most 65,536 bytes whose first lines are these: it filled r bytes of the row lent as `out`, and left it as out'.
@@ -102,8 +102,8 @@ module _ (input seq text : List ℕ) (fits : length input ≤ 65536) (out : List
 
   -- a session with ML, as the program tells it
   pub tells_with_ml : (line ml : List ℕ) (ls : List (List ℕ)) (ts : List Step) (listed : List Listing)
-      → lines_of input ≡ (ascii "SQ" ++ seq) ∷ (ascii "MM" ++ text) ∷ line ∷ ls → has_mark "ML" line ≡ true → values_of line ≡ some ml
-      → read_tag true seq text ml ≡ done listed → map step_of ls ≡ map some ts
+      → lines_of input ≡ (ascii "SQ" ++ seq) ∷ (ascii "MM" ++ text) ∷ line ∷ ls → has_mark "ML" line ≡ true → values_of line ≡ Some ml
+      → read_tag true seq text ml ≡ Ok listed → map step_of ls ≡ map Some ts
       → Tells true (record { seq = seq; text = text; ml = ml }) listed ts (take r out')
   unfolding from_third
   tells_with_ml line ml ls ts listed e m v read g =
@@ -113,7 +113,7 @@ module _ (input seq text : List ℕ) (fits : length input ≤ 65536) (out : List
 
   -- a session without ML, as the program tells it
   pub tells_without_ml : (ls : List (List ℕ)) (ts : List Step) (listed : List Listing)
-      → lines_of input ≡ (ascii "SQ" ++ seq) ∷ (ascii "MM" ++ text) ∷ ls → read_tag false seq text [] ≡ done listed → map step_of ls ≡ map some ts
+      → lines_of input ≡ (ascii "SQ" ++ seq) ∷ (ascii "MM" ++ text) ∷ ls → read_tag false seq text [] ≡ Ok listed → map step_of ls ≡ map Some ts
       → Tells false (record { seq = seq; text = text; ml = [] }) listed ts (take r out')
   tells_without_ml ls ts listed e read g =
       subst (Tells false (record { seq = seq; text = text; ml = [] }) listed ts) (sym (printed ∙ from_lines ls e ∙ third_is_a_step seq text ls ts g))

@@ -1,17 +1,17 @@
 -- The room of the output. A step's line has at least four bytes with its LF, and its answer at most five. What is held at the end is no longer than the
 -- lines that gave it at the opening.
 -- Assumes nothing.
+use Rattle.std.specs.Prelude.{Ok, Err, Option, None, Some}
 use mathlib.Core.Path.{◌≡◌, refl}
 use Prim.Native.Nat.{ℕ, ◌+◌, ◌-◌, ◌*◌, ◌≤◌}
 use native.Mathlib.Omega.{arith}
 use mathlib.Core.Bool.{Bool, true, false, cond}
 use mathlib.Core.List.{List, [], ◌∷◌, ◌++◌}
-use mathlib.Core.Option.{Option, none, some}
 use lib.Dec.{leb}
 use lib.ListN.{length, length-append}
 use borrow.Author.Tests.{leb-true}
 use Rattle.lent.proofs.Tests.{by-test}
-use Rattle.lent.specs.Outcome.{Outcome, done, number_of, refused}
+use Rattle.lent.specs.Outcome.{Outcome, number, number_of}
 use Rattle.lines.proofs.MarkLaws.{marked_long}
 use Rattle.operands.proofs.SizeLaws.{answer_short, answer_zero, decimals_length, lines_length, marked_length, spelled, step_long, values_short}
 use Rattle.lines.specs.Lines.{answer_line, body_of, decimals, given, has_mark, line_of, lines_of, step_of, values_of}
@@ -52,9 +52,9 @@ closing_size ml? s =
 
 -- a step lets it not grow
 size_shrinks : (ml? : Bool) (s : Held) (o : Outcome Held) → Shrinks ml? s o → size ml? (after_step s o) ≤ size ml? s
-size_shrinks ml? s (refused r) w = omega arith
-size_shrinks true s (done h) w = omega (arith, w.seq_in, w.text_in, w.ml_lighter spelled)
-size_shrinks false s (done h) w = omega (arith, w.seq_in, w.text_in)
+size_shrinks ml? s (Err r) w = omega arith
+size_shrinks true s (Ok h) w = omega (arith, w.seq_in, w.text_in, w.ml_lighter spelled)
+size_shrinks false s (Ok h) w = omega (arith, w.seq_in, w.text_in)
 
 -- ---- from the opening's answer on
 
@@ -66,8 +66,8 @@ after_room ml? (l ∷ ls) s = go (λ h. after_room ml? ls h) (step_of l) refl
     go : ((h : Held) → 4 * length (after_opening ml? ls h) ≤ 5 * fields_length ls + 4 * size ml? h) → (o : Option Step) → step_of l ≡ o
         → 4 * length (given o (answer_line 13) (λ t. answer_line (number_of (stepped ml? t s)) ++ after_opening ml? ls (after_step s (stepped ml? t s))))
         ≤ 5 * fields_length (l ∷ ls) + 4 * size ml? s
-    go rest none e = omega (arith, answer_short 13 (omega arith))
-    go rest (some t) e =
+    go rest None e = omega (arith, answer_short 13 (omega arith))
+    go rest (Some t) e =
         let o = stepped ml? t s in
         omega (
           arith,
@@ -81,8 +81,8 @@ after_room ml? (l ∷ ls) s = go (λ h. after_room ml? ls h) (step_of l) refl
 opened_room : (ml? : Bool) (ls : List (List ℕ)) (s : Held) (o : Outcome (List Listing)) → InTable o
     → 4 * length (opened ml? ls s o) ≤ 16 + 5 * fields_length ls + 4 * size ml? s
 unfolding opened
-opened_room ml? ls s (refused r) h = omega (arith, answer_short r.0 h)
-opened_room ml? ls s (done listed) h = omega (arith, answer_zero, length-append (answer_line 0) (after_opening ml? ls s), after_room ml? ls s)
+opened_room ml? ls s (Err r) h = omega (arith, answer_short (number r) h)
+opened_room ml? ls s (Ok listed) h = omega (arith, answer_zero, length-append (answer_line 0) (after_opening ml? ls s), after_room ml? ls s)
 
 opened_on_room : (ml? : Bool) (seq text ml : List ℕ) (ls : List (List ℕ))
     → 4 * length (opened_on ml? seq text ml ls) ≤ 16 + 5 * fields_length ls + 4 * size ml? (record { seq = seq; text = text; ml = ml })
@@ -104,8 +104,8 @@ third_room seq text (l ∷ ls) =
     go : (o : Option (List ℕ)) → values_of l ≡ o → length l ≡ 2 + length (body_of l)
         → 4 * length (given o (answer_line 13) (λ ml. opened_on true seq text ml ls)) ≤ 16 + 5 * fields_length (l ∷ ls) + 4 *
         (6 + length seq + length text)
-    go none v e = omega (arith, answer_short 13 (omega arith))
-    go (some ml) v e = omega (arith, opened_on_room true seq text ml ls, (values_short l ml v).spelled_short)
+    go None v e = omega (arith, answer_short 13 (omega arith))
+    go (Some ml) v e = omega (arith, opened_on_room true seq text ml ls, (values_short l ml v).spelled_short)
 
 second_room : (seq : List ℕ) (ls : List (List ℕ)) → 4 * length (from_second seq ls) ≤ 16 + 5 * fields_length ls + 4 * (3 + length seq)
 unfolding from_second

@@ -1,7 +1,7 @@
 -- The program `tagedit` as a function from its whole input to its whole output.
 -- Assumes nothing.
-use Rattle.std.specs.Prelude.{ℕ, Bool, true, false, cond, List, [], ◌∷◌, ◌++◌, length, leb}
-use Rattle.lent.specs.Outcome.{Outcome, refused, done}
+use Rattle.std.specs.Prelude.{ℕ, Bool, true, false, cond, List, [], ◌∷◌, ◌++◌, length, leb, Ok, Err}
+use Rattle.lent.specs.Outcome.{Outcome, number}
 use Rattle.samtags.specs.Reading.{read_tag}
 use Rattle.samtags.specs.Spots.{Listing}
 use Rattle.samtags.specs.Session.{Held}
@@ -11,8 +11,8 @@ use Rattle.serving.specs.Serving.{after_opening}
 -- the opening is answered as the reader does; if it is refused, nothing follows
 unfoldable pub opened : Bool → List (List ℕ) → Held → Outcome (List Listing) → List ℕ
 unfolding after_opening answer_line
-opened ml? ls s (refused r) = answer_line r.0
-opened ml? ls s (done listed) = answer_line 0 ++ after_opening ml? ls s
+opened ml? ls s (Err r) = answer_line (number r)
+opened ml? ls s (Ok listed) = answer_line 0 ++ after_opening ml? ls s
 
 -- the output once SEQ, MM and ML are read
 unfoldable pub opened_on : Bool → List ℕ → List ℕ → List ℕ → List (List ℕ) → List ℕ

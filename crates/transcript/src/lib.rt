@@ -6,26 +6,12 @@
 #![tactic(auto)]
 
 ghost use Rattle.std.specs.Prelude.{◌≡◌, ◌+◌, ◌≤◌, length, drop, take};
-ghost use Rattle.lent.specs.Outcome.{number_of};
-ghost use Rattle.reading.specs.Answers.{reading_says};
 ghost use Rattle.lines.specs.Lines.{lines_of};
 ghost use Rattle.transcript.specs.PublicContracts.{Transcribes};
 ghost use Rattle.transcript.specs.Desk.{DeskFits, Said};
 ghost use Rattle.transcript.specs.Transcript.{opened_on, from_third, from_second, from_first};
 
-use operands::Values;
-use reading::Reading;
 use stepping::Lengths;
-
-// The opening's number: 0, or the reader's.
-fn opening_number(reading: Reading) -> usize
-    ensures { result ≡ number_of (reading_says reading) }
-{
-    match reading {
-        Reading::Done(_, _) => 0,
-        Reading::Refused(refusal) => refusal.0 as usize,
-    }
-}
 
 // SEQ, MM and ML are read, and the ML's values are at the front of its row. The opening is answered on the input's own lines, so that a SEQ that is
 // too long is refused before anything is copied. Then SEQ and the text are copied to the desk, and the lines that follow are answered.
@@ -47,10 +33,9 @@ fn open_session(
     ensures { Said (opened_on has_ml bases.now text.now (take values ml.old)
         (lines_of (drop place input.now))) result out.old out.new }
 {
-    let read = reading::check_tag(bases, text, &ml[0..values], has_ml);
-    let Reading::Done(_, _) = read else {
-        return printing::put_answer(out, 0, opening_number(read));
-    };
+    if let Err(refusal) = reading::check_tag(bases, text, &ml[0..values], has_ml) {
+        return printing::put_answer(out, 0, refusal.number() as usize);
+    }
     let end = printing::put_answer(out, 0, 0);
     entries::put_all(seq, 0, bases);
     entries::put_all(mm, 0, text);
@@ -88,8 +73,7 @@ fn from_third(
         return open_session(input, place, bases, text, 0, false, seq, mm, ml, out);
     }
     let body = lines::body_of(line);
-    let read = operands::put_values(body, ml);
-    let Values::Of(values) = read else {
+    let Some(values) = operands::put_values(body, ml) else {
         return printing::put_answer(out, 0, 13);
     };
     let next = place + line.len() + 1;

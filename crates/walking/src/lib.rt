@@ -60,11 +60,9 @@ fn put_places(place: u64, n: usize, is_reverse: bool, out: &mut [i64])
     requires { (n ≤ length out.old) × Reaches is_reverse place n }
     ensures { out.new ≡ over (run is_reverse place n) out.old }
 {
-    let mut i = 0;
-    while i < n {
+    for i in 0..n {
         let at = place_of(place, i as u64, is_reverse);
         out[i] = at;
-        i += 1;
     }
 }
 
@@ -72,11 +70,7 @@ fn put_missing(n: usize, out: &mut [i64])
     requires { n ≤ length out.old }
     ensures { out.new ≡ over (replicate n missing) out.old }
 {
-    let mut i = 0;
-    while i < n {
-        out[i] = -1;
-        i += 1;
-    }
+    out[..n].fill(-1);
 }
 
 // Writes the places of one operation's bases to the front of `out`. An operation that takes no bases writes nothing, however long it is.
@@ -99,12 +93,10 @@ pub fn walk(cigar: &[u32], outset: u64, is_reverse: bool, positions: &mut [i64])
 {
     let mut place = outset;
     let mut at = 0;
-    let mut i = 0;
-    while i < cigar.len() {
+    for i in 0..cigar.len() {
         let word = word_at(cigar, i, is_reverse);
         put_operation(word, place, is_reverse, &mut positions[at..]);
         place = moved(place, places_taken(word), is_reverse);
         at += bases_taken(word) as usize;
-        i += 1;
     }
 }

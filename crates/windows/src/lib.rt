@@ -14,11 +14,9 @@ fn same_block(a: &[u8], b: &[u8], from: usize, size: usize) -> bool
     ensures { result ≡ same_bytes_of (take size (drop from a.now)) (take size (drop from b.now)) }
 {
     let mut same = true;
-    let mut i = 0;
-    while i < size {
+    for i in 0..size {
         let here = a[from + i] == b[from + i];
         same = same & here;
-        i += 1;
     }
     same
 }
@@ -31,6 +29,7 @@ pub fn same_bytes(a: &[u8], b: &[u8]) -> bool
         return false;
     }
     let mut i = 0;
+    // A cursor, not a count: it goes on by a block, and what is left is shorter than one.
     while 128 <= a.len() - i {
         let same = same_block(a, b, i, 128);
         if !same {
@@ -46,13 +45,10 @@ pub fn window_of(seq: &[u8], after: &[u8], lo: usize) -> Window
     ensures { (result.lo ≡ lo) × Told result after.now seq.now }
 {
     if lo != 0 {
-        return Window {
-            lo: lo,
-            same: false,
-        };
+        return Window { lo, same: false };
     }
     let same = same_bytes(after, seq);
-    Window { lo: lo, same: same }
+    Window { lo, same }
 }
 
 // Whether a byte may be there after a cut: it is the old byte, or masked.
@@ -76,11 +72,9 @@ pub fn lies_in(after: &[u8], seq: &[u8], lo: usize) -> bool
         return false;
     }
     let mut lies = true;
-    let mut i = 0;
-    while i < after.len() {
-        let fits = stands(after[i], seq[lo + i]);
+    for (i, &b) in after.iter().enumerate() {
+        let fits = stands(b, seq[lo + i]);
         lies = lies & fits;
-        i += 1;
     }
     lies
 }

@@ -1,8 +1,9 @@
-use mathlib.Core.Path.{◌≡◌, refl, sym, ◌∙◌}
+use Rattle.std.proofs.Common.{rules}
+use mathlib.Core.Path.{◌≡◌, sym, ◌∙◌}
 use mathlib.Core.List.{List, map}
 use Prim.Native.Nat.{ℕ}
 use native.Mathlib.Omega.{arith}
-use lib.ListN.{length, get_or, take, length-set, length-map}
+use lib.ListN.{length, get_or, take, length-map}
 use lib.Seq.{take_all, length-take-le}
 use lib.IntN.{pos}
 use mir.Syntax.{w64}
@@ -22,21 +23,18 @@ returns-then-bases-ref_positions c =
     (rw short, rw short (sym (leaves_refused (λ (l : List ℕ). l) (refusal 12) a.bases.now)))
 
 pub loop-i-init : goal.loop-i-init
-loop-i-init c = (omega arith, refl, over_none c.args.bases.now)
+loop-i-init c = over_none c.args.bases.now
 
 pub loop-i-preserved : goal.loop-i-preserved
 loop-i-preserved c =
     let a = c.args in
     let l = a.ref_positions.now in
     let i = c.loop-i.i in
-    let f : SFits w64 (get_or l i (pos 0)) = record { sfits = c.place-1.given } in
-    let e : c.base_at.result ≡ base_at a.reference.now (get_or l i (pos 0)) = rw (to_z-of_z f) at c.base_at.ensures in (
-      omega arith,
-      simp length-set (omega arith),
-      rw (c.loop-i.invariant.2, e, map_more (base_at a.reference.now) l i (pos 0) (omega arith))
-          (over_one_more (map (base_at a.reference.now) (take i l)) a.bases.now i (base_at a.reference.now (get_or l i (pos 0)))
-          (length-map (take i l) (base_at a.reference.now) ∙ length-take-le i l (omega arith)) (omega arith)),
-    )
+    let f : SFits w64 (get_or l i (pos 0)) = search rules in
+    let e : c.base_at.result ≡ base_at a.reference.now (get_or l i (pos 0)) = rw (to_z-of_z f) at c.base_at.ensures in
+    rw (c.loop-i.invariant, e, map_more (base_at a.reference.now) l i (pos 0) (omega arith))
+    (over_one_more (map (base_at a.reference.now) (take i l)) a.bases.now i (base_at a.reference.now (get_or l i (pos 0)))
+    (length-map (take i l) (base_at a.reference.now) ∙ length-take-le i l (omega arith)) (omega arith))
 
 pub returns : goal.returns
 returns c =
@@ -44,5 +42,5 @@ returns c =
     let fits = le-leb (length a.ref_positions.now) (length a.bases.now) (omega arith) in
     let all = take_all c.loop-i.i a.ref_positions.now (omega arith) in
     let l : List ℕ = map (base_at a.reference.now) a.ref_positions.now in
-    let n : c.loop-i.i ≡ length l = omega (arith, length-map a.ref_positions.now (base_at a.reference.now)) in
-    (rw (fits, n), rw (fits, leaves_done (λ (l : List ℕ). l) l a.bases.now) (rw all at c.loop-i.invariant.2))
+    let n : length a.ref_positions.now ≡ length l = omega (arith, length-map a.ref_positions.now (base_at a.reference.now)) in
+    (rw (fits, n), rw (fits, leaves_done (λ (l : List ℕ). l) l a.bases.now) (rw all at c.loop-i.invariant))

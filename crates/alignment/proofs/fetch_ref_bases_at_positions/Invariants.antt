@@ -2,14 +2,10 @@
 -- Assumes nothing.
 use mathlib.Core.Path.{◌≡◌}
 use mathlib.Core.List.{map}
-use Prim.Native.Nat.{◌-◌, ◌≤◌}
-use lib.ListN.{length, take}
+use lib.ListN.{take}
 use Rattle.lent.specs.Filled.{over}
 use Rattle.alignment.specs.Reference.{base_at}
 use Rattle.alignment.proofs.fetch_ref_bases_at_positions.Given as goal
 
 abbrev pub invariant-loop-i : goal.invariant-loop-i
-invariant-loop-i l = (l.i ≤ length l.ref_positions) × (length l.bases ≡ length l.initial.bases) × (l.bases ≡ over (map (base_at l.reference) (take l.i l.ref_positions)) l.initial.bases)
-
-abbrev pub decreases-loop-i : goal.decreases-loop-i
-decreases-loop-i l = length l.ref_positions - l.i
+invariant-loop-i l = l.bases ≡ over (map (base_at l.reference) (take l.i l.ref_positions)) l.initial.bases

@@ -4,29 +4,30 @@ use mathlib.Core.Path.{◌≡◌, sym, ◌∙◌}
 use Prim.Native.Nat.{ℕ, ◌-◌}
 use native.Mathlib.Omega.{arith}
 use lib.ListN.{length, take, drop, length-take, length-drop}
-use Rattle.lent.specs.Outcome.{Outcome, says}
+use Rattle.lent.specs.Outcome.{Outcome}
 use Rattle.pattern.specs.Patterns.{bases_of}
 use Rattle.evidence.specs.Position.{capped}
 use Rattle.columns.specs.Columns.{yes_byte, informative_at, informative_column}
 use Rattle.counting.specs.Reads.{reads_of, bases_at, how_many, unconverted_column, converted_column}
 use Rattle.refusals.specs.Refusals.{annotated}
 use Rattle.lent.proofs.Tabulate.{length_tabulate, length_front, front_filled}
+use Rattle.lent.proofs.Outcome.{passed_on}
 use Rattle.lent.proofs.Leaves.{said_done, refused_leaves, done_leaves}
 use Rattle.annotation.proofs.Outcomes.{Annotated, annotated_done}
 use Rattle.annotation.proofs.annotate_simplex_methylation.Goals as goal
 
-pub returns-in_default : goal.returns-in_default
-returns-in_default c =
-    let w = c.annotated-asked.result in
+pub returns-in_err-n : goal.returns-in_err-n
+returns-in_err-n c =
+    let w = c.annotated.result in
     let o : Outcome ℕ = annotated c.args.consensus_len c.args.read_lengths.now c.args.read_bases.now c.args.read_aligned.now
     (length c.args.informative.now) (length c.args.unconverted.now) (length c.args.converted.now) in
-    let e : says w ≡ o = c.annotated-asked.ensures in
-    let t = c.in_default.is in
+    let e : w ≡ o = c.annotated.ensures in
+    let t = c.in_err-n.was in
     let p = c.args.pattern in
     let row = c.args.ref_bases.now in
     let all? = c.args.count_all_positions in
     let reads = reads_of c.args.read_lengths.now c.args.read_bases.now c.args.read_aligned.now in (
-      e,
+      passed_on _ _ c.from_residual.ensures.1 ∙ sym t ∙ e,
       refused_leaves (informative_column p row) w o _ c.args.informative.now e t,
       refused_leaves (unconverted_column p all? row reads) w o _ c.args.unconverted.now e t,
       refused_leaves (converted_column p all? row reads) w o _ c.args.converted.now e t,
@@ -34,44 +35,44 @@ returns-in_default c =
 
 pub slice_bounds-fill-end : goal.slice_bounds-fill-end
 slice_bounds-fill-end c =
-    let lengths : Annotated c.args.consensus_len c.args.read_lengths.now c.args.read_bases.now c.args.read_aligned.now (length c.args.informative.now) (length c.args.unconverted.now) (length c.args.converted.now) c.in-Done.n = (let o : Outcome ℕ = annotated c.args.consensus_len c.args.read_lengths.now c.args.read_bases.now c.args.read_aligned.now
+    let lengths : Annotated c.args.consensus_len c.args.read_lengths.now c.args.read_bases.now c.args.read_aligned.now (length c.args.informative.now) (length c.args.unconverted.now) (length c.args.converted.now) c.in_ok-n.n = (let o : Outcome ℕ = annotated c.args.consensus_len c.args.read_lengths.now c.args.read_bases.now c.args.read_aligned.now
     (length c.args.informative.now) (length c.args.unconverted.now) (length c.args.converted.now) in
-    annotated_done _ _ _ _ _ _ _ _ (said_done c.annotated-asked.result o _ c.annotated-asked.ensures c.in-Done.is)) in
+    annotated_done _ _ _ _ _ _ _ _ (said_done c.annotated.result o _ c.annotated.ensures c.in_ok-n.was)) in
     omega (arith, lengths)
 
 pub slice_bounds-fill-end-2 : goal.slice_bounds-fill-end-2
 slice_bounds-fill-end-2 c =
-    let lengths : Annotated c.args.consensus_len c.args.read_lengths.now c.args.read_bases.now c.args.read_aligned.now (length c.args.informative.now) (length c.args.unconverted.now) (length c.args.converted.now) c.in-Done.n = (let o : Outcome ℕ = annotated c.args.consensus_len c.args.read_lengths.now c.args.read_bases.now c.args.read_aligned.now
+    let lengths : Annotated c.args.consensus_len c.args.read_lengths.now c.args.read_bases.now c.args.read_aligned.now (length c.args.informative.now) (length c.args.unconverted.now) (length c.args.converted.now) c.in_ok-n.n = (let o : Outcome ℕ = annotated c.args.consensus_len c.args.read_lengths.now c.args.read_bases.now c.args.read_aligned.now
     (length c.args.informative.now) (length c.args.unconverted.now) (length c.args.converted.now) in
-    annotated_done _ _ _ _ _ _ _ _ (said_done c.annotated-asked.result o _ c.annotated-asked.ensures c.in-Done.is)) in
+    annotated_done _ _ _ _ _ _ _ _ (said_done c.annotated.result o _ c.annotated.ensures c.in_ok-n.was)) in
     omega (arith, lengths)
 
 pub slice_bounds-fill-end-3 : goal.slice_bounds-fill-end-3
 slice_bounds-fill-end-3 c =
-    let lengths : Annotated c.args.consensus_len c.args.read_lengths.now c.args.read_bases.now c.args.read_aligned.now (length c.args.informative.now) (length c.args.unconverted.now) (length c.args.converted.now) c.in-Done.n = (let o : Outcome ℕ = annotated c.args.consensus_len c.args.read_lengths.now c.args.read_bases.now c.args.read_aligned.now
+    let lengths : Annotated c.args.consensus_len c.args.read_lengths.now c.args.read_bases.now c.args.read_aligned.now (length c.args.informative.now) (length c.args.unconverted.now) (length c.args.converted.now) c.in_ok-n.n = (let o : Outcome ℕ = annotated c.args.consensus_len c.args.read_lengths.now c.args.read_bases.now c.args.read_aligned.now
     (length c.args.informative.now) (length c.args.unconverted.now) (length c.args.converted.now) in
-    annotated_done _ _ _ _ _ _ _ _ (said_done c.annotated-asked.result o _ c.annotated-asked.ensures c.in-Done.is)) in
+    annotated_done _ _ _ _ _ _ _ _ (said_done c.annotated.result o _ c.annotated.ensures c.in_ok-n.was)) in
     omega (arith, lengths)
 
 pub fill-requires : goal.fill-requires
 fill-requires c =
-    let lengths : Annotated c.args.consensus_len c.args.read_lengths.now c.args.read_bases.now c.args.read_aligned.now (length c.args.informative.now) (length c.args.unconverted.now) (length c.args.converted.now) c.in-Done.n = (let o : Outcome ℕ = annotated c.args.consensus_len c.args.read_lengths.now c.args.read_bases.now c.args.read_aligned.now
+    let lengths : Annotated c.args.consensus_len c.args.read_lengths.now c.args.read_bases.now c.args.read_aligned.now (length c.args.informative.now) (length c.args.unconverted.now) (length c.args.converted.now) c.in_ok-n.n = (let o : Outcome ℕ = annotated c.args.consensus_len c.args.read_lengths.now c.args.read_bases.now c.args.read_aligned.now
     (length c.args.informative.now) (length c.args.unconverted.now) (length c.args.converted.now) in
-    annotated_done _ _ _ _ _ _ _ _ (said_done c.annotated-asked.result o _ c.annotated-asked.ensures c.in-Done.is)) in
+    annotated_done _ _ _ _ _ _ _ _ (said_done c.annotated.result o _ c.annotated.ensures c.in_ok-n.was)) in
     simp (length-take, length-drop) (omega (arith, lengths))
 
 pub returns : goal.returns
 returns c =
-    let lengths : Annotated c.args.consensus_len c.args.read_lengths.now c.args.read_bases.now c.args.read_aligned.now (length c.args.informative.now) (length c.args.unconverted.now) (length c.args.converted.now) c.in-Done.n = (let o : Outcome ℕ = annotated c.args.consensus_len c.args.read_lengths.now c.args.read_bases.now c.args.read_aligned.now
+    let lengths : Annotated c.args.consensus_len c.args.read_lengths.now c.args.read_bases.now c.args.read_aligned.now (length c.args.informative.now) (length c.args.unconverted.now) (length c.args.converted.now) c.in_ok-n.n = (let o : Outcome ℕ = annotated c.args.consensus_len c.args.read_lengths.now c.args.read_bases.now c.args.read_aligned.now
     (length c.args.informative.now) (length c.args.unconverted.now) (length c.args.converted.now) in
-    annotated_done _ _ _ _ _ _ _ _ (said_done c.annotated-asked.result o _ c.annotated-asked.ensures c.in-Done.is)) in
+    annotated_done _ _ _ _ _ _ _ _ (said_done c.annotated.result o _ c.annotated.ensures c.in_ok-n.was)) in
     let a = c.args in
-    let w = c.annotated-asked.result in
+    let w = c.annotated.result in
     let o : Outcome ℕ = annotated a.consensus_len a.read_lengths.now a.read_bases.now a.read_aligned.now
     (length a.informative.now) (length a.unconverted.now) (length a.converted.now) in
-    let e : says w ≡ o = c.annotated-asked.ensures in
-    let n = c.in-Done.n in
-    let t = c.in-Done.is in
+    let e : w ≡ o = c.annotated.ensures in
+    let n = c.in_ok-n.n in
+    let t = c.in_ok-n.was in
     let p = a.pattern in
     let row = a.ref_bases.now in
     let all? = a.count_all_positions in

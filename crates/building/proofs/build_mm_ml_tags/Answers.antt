@@ -1,32 +1,33 @@
 -- `build_mm_ml_tags` passes on a refusal, answers 12 if a row has no room, and otherwise stores the strand's tag.
 -- Assumes nothing.
-use mathlib.Core.Path.{◌∙◌, ap, refl, sym}
+use Rattle.std.specs.Prelude.{Ok}
+use mathlib.Core.Path.{◌∙◌, refl, sym}
 use Prim.Native.Nat.{◌≤◌}
 use native.Mathlib.Omega.{arith}
 use mathlib.Core.Bool.{true}
 use lib.ListN.{length}
 use Rattle.building.proofs.Measured.{Measured, measured, not_built}
 use Rattle.lent.proofs.Filled.{over_stored}
+use Rattle.lent.proofs.Outcome.{passed_on}
 use Rattle.lent.specs.Filled.{leaves}
-use Rattle.lent.specs.Outcome.{done, tag_says}
 use Rattle.samtags.proofs.Room.{no_room_for_ml, no_room_for_text, room_for_both}
 use Rattle.samtags.specs.Building.{Evidence, build_tag, columns, own_tag}
 use Rattle.samtags.specs.Writing.{Tag}
 use Rattle.building.proofs.build_mm_ml_tags.Goals as goal
 
-pub returns-in_default : goal.returns-in_default
+pub returns-in_err-text_len : goal.returns-in_err-text_len
 unfolding leaves
-returns-in_default c =
+returns-in_err-text_len c =
     let ev : Evidence = columns c.args.informative.now c.args.unconverted.now c.args.converted.now in
-    let off = not_built c.args.methylation_mode c.args.pattern ev c.args.consensus_bases.now true (length c.args.mm.now) (length c.args.ml.now) c.in_default.field-0
-    (sym c.measure-asked.ensures ∙ ap tag_says c.in_default.is) in
-    rw (off, c.in_default.is) (refl, refl, refl)
+    let off = not_built c.args.methylation_mode c.args.pattern ev c.args.consensus_bases.now true (length c.args.mm.now) (length c.args.ml.now) c.in_err-text_len.field-0.0
+    (sym c.measure.ensures ∙ c.in_err-text_len.was) in
+    rw off (passed_on _ _ c.from_residual.ensures.1, refl, refl)
 
 pub returns-then-mm-text_len : goal.returns-then-mm-text_len
 unfolding leaves build_tag
 returns-then-mm-text_len c =
-    let found : Measured c.args.methylation_mode c.args.pattern (columns c.args.informative.now c.args.unconverted.now c.args.converted.now) c.args.consensus_bases.now c.in-Done.text_len c.in-Done.calls = measured c.args.methylation_mode c.args.pattern (columns c.args.informative.now c.args.unconverted.now c.args.converted.now) c.args.consensus_bases.now
-    c.in-Done.text_len c.in-Done.calls (sym c.measure-asked.ensures ∙ ap tag_says c.in-Done.is) in
+    let found : Measured c.args.methylation_mode c.args.pattern (columns c.args.informative.now c.args.unconverted.now c.args.converted.now) c.args.consensus_bases.now c.in_ok-text_len.text_len c.in_ok-text_len.calls = measured c.args.methylation_mode c.args.pattern (columns c.args.informative.now c.args.unconverted.now c.args.converted.now) c.args.consensus_bases.now
+    c.in_ok-text_len.text_len c.in_ok-text_len.calls (sym c.measure.ensures ∙ c.in_ok-text_len.was) in
     let f = found in
     let ev : Evidence = columns c.args.informative.now c.args.unconverted.now c.args.converted.now in
     let own : Tag = own_tag c.args.methylation_mode c.args.pattern ev c.args.consensus_bases.now in
@@ -35,8 +36,8 @@ returns-then-mm-text_len c =
 pub returns-then-ml-calls : goal.returns-then-ml-calls
 unfolding leaves build_tag
 returns-then-ml-calls c =
-    let found : Measured c.args.methylation_mode c.args.pattern (columns c.args.informative.now c.args.unconverted.now c.args.converted.now) c.args.consensus_bases.now c.in-Done.text_len c.in-Done.calls = measured c.args.methylation_mode c.args.pattern (columns c.args.informative.now c.args.unconverted.now c.args.converted.now) c.args.consensus_bases.now
-    c.in-Done.text_len c.in-Done.calls (sym c.measure-asked.ensures ∙ ap tag_says c.in-Done.is) in
+    let found : Measured c.args.methylation_mode c.args.pattern (columns c.args.informative.now c.args.unconverted.now c.args.converted.now) c.args.consensus_bases.now c.in_ok-text_len.text_len c.in_ok-text_len.calls = measured c.args.methylation_mode c.args.pattern (columns c.args.informative.now c.args.unconverted.now c.args.converted.now) c.args.consensus_bases.now
+    c.in_ok-text_len.text_len c.in_ok-text_len.calls (sym c.measure.ensures ∙ c.in_ok-text_len.was) in
     let f = found in
     let ev : Evidence = columns c.args.informative.now c.args.unconverted.now c.args.converted.now in
     let own : Tag = own_tag c.args.methylation_mode c.args.pattern ev c.args.consensus_bases.now in
@@ -44,23 +45,23 @@ returns-then-ml-calls c =
 
 pub put_tag-requires : goal.put_tag-requires
 put_tag-requires c =
-    let found : Measured c.args.methylation_mode c.args.pattern (columns c.args.informative.now c.args.unconverted.now c.args.converted.now) c.args.consensus_bases.now c.in-Done.text_len c.in-Done.calls = measured c.args.methylation_mode c.args.pattern (columns c.args.informative.now c.args.unconverted.now c.args.converted.now) c.args.consensus_bases.now
-    c.in-Done.text_len c.in-Done.calls (sym c.measure-asked.ensures ∙ ap tag_says c.in-Done.is) in
+    let found : Measured c.args.methylation_mode c.args.pattern (columns c.args.informative.now c.args.unconverted.now c.args.converted.now) c.args.consensus_bases.now c.in_ok-text_len.text_len c.in_ok-text_len.calls = measured c.args.methylation_mode c.args.pattern (columns c.args.informative.now c.args.unconverted.now c.args.converted.now) c.args.consensus_bases.now
+    c.in_ok-text_len.text_len c.in_ok-text_len.calls (sym c.measure.ensures ∙ c.in_ok-text_len.was) in
     let f = found in
     record { seq_len_bound = (f.lengths.short, f.lengths.inf, f.lengths.unc, f.lengths.con); calls_value = f.values }
 
 pub returns : goal.returns
 unfolding leaves build_tag
 returns c =
-    let found : Measured c.args.methylation_mode c.args.pattern (columns c.args.informative.now c.args.unconverted.now c.args.converted.now) c.args.consensus_bases.now c.in-Done.text_len c.in-Done.calls = measured c.args.methylation_mode c.args.pattern (columns c.args.informative.now c.args.unconverted.now c.args.converted.now) c.args.consensus_bases.now
-    c.in-Done.text_len c.in-Done.calls (sym c.measure-asked.ensures ∙ ap tag_says c.in-Done.is) in
+    let found : Measured c.args.methylation_mode c.args.pattern (columns c.args.informative.now c.args.unconverted.now c.args.converted.now) c.args.consensus_bases.now c.in_ok-text_len.text_len c.in_ok-text_len.calls = measured c.args.methylation_mode c.args.pattern (columns c.args.informative.now c.args.unconverted.now c.args.converted.now) c.args.consensus_bases.now
+    c.in_ok-text_len.text_len c.in_ok-text_len.calls (sym c.measure.ensures ∙ c.in_ok-text_len.was) in
     let f = found in
     let ev : Evidence = columns c.args.informative.now c.args.unconverted.now c.args.converted.now in
     let own : Tag = own_tag c.args.methylation_mode c.args.pattern ev c.args.consensus_bases.now in
     let t-fits : length own.text ≤ length c.args.mm.now = omega (arith, f.text) in
     let m-fits : length own.ml ≤ length c.args.ml.now = omega (arith, f.values) in
     rw (f.built, room_for_both (length c.args.mm.now) (length c.args.ml.now) own t-fits m-fits) (
-      (λ j. done (f.text j, f.values j)),
+      (λ j. Ok (f.text j, f.values j)),
       c.put_tag.ensures.0 ∙ over_stored own.text c.args.mm.now t-fits,
       c.put_tag.ensures.1 ∙ over_stored own.ml c.args.ml.now m-fits,
     )

@@ -1,11 +1,11 @@
 -- `measure` makes the checks in order, and then measures the strand's own tag.
 -- Assumes nothing.
+use Rattle.std.specs.Prelude.{Ok}
 use mathlib.Core.Path.{◌∙◌, ◌≡◌, ap, sym}
 use Prim.Native.Nat.{◌<◌}
 use native.Mathlib.Omega.{arith}
 use mathlib.Core.Bool.{false, true}
 use lib.ListN.{length}
-use Rattle.lent.specs.Outcome.{done}
 use Rattle.samtags.proofs.OwnTag.{own_full, own_none, own_some}
 use Rattle.samtags.specs.Building.{Evidence, built_tag, columns, evidence_agrees, evidence_in_domain, own_tag}
 use Rattle.samtags.specs.Writing.{Tag}
@@ -56,4 +56,4 @@ returns c =
     let own-size = c.measure-own.ensures in
     let text = own-size.0 ∙ ap (λ (t : Tag). length t.text) own in
     let values = own-size.1 ∙ ap (λ (t : Tag). length t.ml) own in
-    rw (inside, same, calls) (λ j. done (text j, values j))
+    rw (inside, same, calls) (λ j. Ok (text j, values j))

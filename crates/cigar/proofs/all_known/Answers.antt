@@ -1,26 +1,24 @@
-use mathlib.Core.Path.{refl, sym, ◌∙◌}
-use native.Mathlib.Omega.{arith}
-use Rattle.lent.proofs.Lists.{every_end, every_on, every_stop}
+-- `all_known`: std's `all` is true if each word passes, as `every` is. Assumes nothing.
+use Rattle.std.proofs.Common.{◌≡◌, refl, sym, ap, ◌∙◌, ℕ, Bool, List, [], ◌∷◌, ◌&&◌, rules}
+use Rattle.std.specs.Prelude.{◌↔◌, IsTrue}
+use Rattle.std.specs.List.{list_all, AllPass}
+use Rattle.std.proofs.lemmas.List.Sums.{AllPass-from_list_all, list_all-from_AllPass}
+use Rattle.lent.specs.Lists.{every}
+use Rattle.lent.proofs.Tests.{by-test}
 use Rattle.cigar.specs.Cigar.{is_known}
 use Rattle.cigar.proofs.all_known.Goals as goal
 
-pub loop-asked-init : goal.loop-asked-init
-loop-asked-init c = (omega arith, refl)
+every_is_all : (t : ℕ → Bool) (xs : List ℕ) → every t xs ≡ list_all t xs
+every_is_all t [] = refl
+every_is_all t (x ∷ xs) = ap (λ (b : Bool). t x && b) (every_is_all t xs)
 
-pub returns-then-not-is_known : goal.returns-then-not-is_known
-returns-then-not-is_known c =
-    let k = c.before in
-    let h = k.before.before.before in
-    let e = sym k.is_known.ensures ∙ c.if-not-is_known.true in
-    sym (h.loop-asked.invariant.1 ∙ every_stop is_known h.args.cigar.now h.loop-asked.asked 0 (omega arith) e)
-
-pub loop-asked-preserved : goal.loop-asked-preserved
-loop-asked-preserved c =
-    let k = c.before in
-    let h = k.before.before.before in
-    let e = sym k.is_known.ensures ∙ c.if-not-is_known.false in
-    (omega arith, h.loop-asked.invariant.1 ∙ every_on is_known h.args.cigar.now h.loop-asked.asked 0 (omega arith) e)
+decided : (t : ℕ → Bool) (xs : List ℕ) (r : Bool) → (IsTrue r ↔ AllPass t xs) → r ≡ every t xs
+decided t xs r h =
+    by-test r
+    (λ e. e ∙ sym (every_is_all t xs ∙ list_all-from_AllPass t xs (h.0 e)))
+    (λ e. by-test (every t xs) (λ u. h.1 (AllPass-from_list_all t xs (sym (every_is_all t xs) ∙ u)) ∙ sym u) (λ u. e ∙ sym u))
 
 pub returns : goal.returns
 returns c =
-    sym (c.loop-asked.invariant.1 ∙ every_end is_known c.args.cigar.now c.loop-asked.asked (omega arith))
+    let h : IsTrue c.all.result ↔ AllPass is_known c.args.cigar.now = search rules in
+    decided is_known c.args.cigar.now c.all.result h

@@ -1,30 +1,8 @@
-use mathlib.Core.Path.{◌≡◌, refl}
-use native.Mathlib.Numerals.{add-one}
-use native.Mathlib.Omega.{arith}
-use lib.ListN.{length, get_or, take, length-set}
-use lib.Seq.{take_all, take-suc, length-take-le}
-use Rattle.lent.proofs.Filled.{over_none, over_one_more}
+-- `copy_counts` copies to the front of the row.
+-- Assumes nothing.
+use Rattle.lent.specs.Filled.{over}
 use Rattle.columns.proofs.copy_counts.Goals as goal
 
-pub loop-i-init : goal.loop-i-init
-loop-i-init c = (omega arith, refl, over_none c.args.out.now)
-
-pub loop-i-preserved : goal.loop-i-preserved
-loop-i-preserved c =
-    let from = c.args.counts.now in
-    let i = c.loop-i.i in
-    let n : length (take i from) ≡ i = length-take-le i from (omega arith) in (
-      omega arith,
-      simp length-set (omega arith),
-      rw (
-        c.loop-i.invariant.2,
-        over_one_more (take i from) c.args.out.now i (get_or from i 0) n (omega arith),
-        add-one,
-        take-suc from i 0
-            (omega arith),
-      ),
-    )
-
 pub returns : goal.returns
-returns c =
-    rw (c.loop-i.invariant.2, take_all c.loop-i.i c.args.counts.now (omega arith))
+unfolding over
+returns c = rw c.copy_from_slice.ensures.after

@@ -3,8 +3,8 @@
 use mathlib.Core.Path.{◌≡◌}
 use mathlib.Core.Bool.{cond}
 use mathlib.Core.List.{List}
-use Prim.Native.Nat.{ℕ, ◌≤◌, ◌-◌}
-use lib.ListN.{length, get_or}
+use Prim.Native.Nat.{ℕ}
+use lib.ListN.{get_or}
 use Rattle.lent.proofs.InPlace.{changed_up_to}
 use Rattle.columns.specs.Columns.{is_yes}
 use Rattle.columns.proofs.gate.Given as goal
@@ -16,7 +16,4 @@ abbrev pub gate_at : List ℕ → ℕ → ℕ → ℕ
 gate_at informative i n = gate_one (get_or informative i 0) n
 
 abbrev pub invariant-loop-i : goal.invariant-loop-i
-invariant-loop-i l = (l.i ≤ length l.initial.counts) × (length l.counts ≡ length l.initial.counts) × (l.counts ≡ changed_up_to (gate_at l.informative) l.i l.initial.counts)
-
-abbrev pub decreases-loop-i : goal.decreases-loop-i
-decreases-loop-i l = length l.initial.counts - l.i
+invariant-loop-i l = l.counts ≡ changed_up_to (gate_at l.informative) l.i l.initial.counts

@@ -1,7 +1,6 @@
-use mathlib.Core.Path.{◌≡◌, refl}
+use mathlib.Core.Path.{◌≡◌}
 use native.Mathlib.Omega.{arith}
-use lib.ListN.{get_or, length-set}
-use lib.Seq.{take_all}
+use lib.ListN.{get_or}
 use mir.Syntax.{w16}
 use mir.Val.{to_z, of_z}
 use mir.Facts.{to_z_pos}
@@ -11,7 +10,7 @@ use Rattle.columns.proofs.put_tag_counts.Goals as goal
 use Rattle.columns.proofs.put_tag_counts.Invariants.{tag_count}
 
 pub loop-i-init : goal.loop-i-init
-loop-i-init c = (omega arith, refl, over_none c.args.counts.now)
+loop-i-init c = over_none c.args.counts.now
 
 pub loop-i-preserved : goal.loop-i-preserved
 loop-i-preserved c =
@@ -20,13 +19,5 @@ loop-i-preserved c =
     let i = c.loop-i.i in
     let n = get_or column i 0 in
     let stored : to_z w16 (of_z w16 c.tag_count.result) ≡ tag_count n =
-    rw c.tag_count.ensures (to_z_pos w16 (omega arith)) in (
-      omega arith,
-      simp length-set (omega arith),
-      rw (stored, c.loop-i.invariant.2) (over_map_more tag_count column a.counts.now i 0 (omega arith) (omega arith)),
-    )
-
-pub returns : goal.returns
-returns c =
-    let column = c.args.column.now in
-    rw (c.loop-i.invariant.2, take_all c.loop-i.i column (omega arith))
+    rw c.tag_count.ensures (to_z_pos w16 (omega arith)) in
+    rw (stored, c.loop-i.invariant) (over_map_more tag_count column a.counts.now i 0 (omega arith) (omega arith))

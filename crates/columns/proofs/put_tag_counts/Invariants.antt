@@ -2,9 +2,9 @@
 -- Assumes nothing.
 use mathlib.Core.Path.{◌≡◌}
 use mathlib.Core.List.{map}
-use Prim.Native.Nat.{ℕ, ◌≤◌, ◌-◌, min}
+use Prim.Native.Nat.{ℕ, min}
 use lib.IntN.{ℤ, pos}
-use lib.ListN.{length, take}
+use lib.ListN.{take}
 use Rattle.lent.specs.Filled.{over}
 use Rattle.columns.proofs.put_tag_counts.Given as goal
 
@@ -12,7 +12,4 @@ abbrev pub tag_count : ℕ → ℤ
 tag_count n = pos (min 32767 n)
 
 abbrev pub invariant-loop-i : goal.invariant-loop-i
-invariant-loop-i l = (l.i ≤ length l.column) × (length l.counts ≡ length l.initial.counts) × (l.counts ≡ over (map tag_count (take l.i l.column)) l.initial.counts)
-
-abbrev pub decreases-loop-i : goal.decreases-loop-i
-decreases-loop-i l = length l.column - l.i
+invariant-loop-i l = l.counts ≡ over (map tag_count (take l.i l.column)) l.initial.counts

@@ -3,8 +3,8 @@
 use mathlib.Core.Path.{◌≡◌}
 use mathlib.Core.Bool.{cond, ◌&&◌}
 use mathlib.Core.List.{List}
-use Prim.Native.Nat.{ℕ, ◌≤◌, ◌-◌}
-use lib.ListN.{length, get_or}
+use Prim.Native.Nat.{ℕ}
+use lib.ListN.{get_or}
 use Rattle.lent.proofs.InPlace.{changed_up_to}
 use Rattle.pattern.specs.Case.{same_in_any_case}
 use Rattle.pattern.specs.Patterns.{bases_of}
@@ -19,7 +19,4 @@ abbrev pub restore_at : ConversionPattern → List ℕ → ℕ → ℕ → ℕ
 restore_at p informative i b = restore_one p (get_or informative i 0) b
 
 abbrev pub invariant-loop-i : goal.invariant-loop-i
-invariant-loop-i l = (l.i ≤ length l.initial.bases) × (length l.bases ≡ length l.initial.bases) × (l.bases ≡ changed_up_to (restore_at l.pattern l.informative) l.i l.initial.bases)
-
-abbrev pub decreases-loop-i : goal.decreases-loop-i
-decreases-loop-i l = length l.initial.bases - l.i
+invariant-loop-i l = l.bases ≡ changed_up_to (restore_at l.pattern l.informative) l.i l.initial.bases

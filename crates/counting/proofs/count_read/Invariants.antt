@@ -3,8 +3,7 @@
 use mathlib.Core.Path.{◌≡◌}
 use mathlib.Core.Bool.{Bool}
 use mathlib.Core.List.{List}
-use Prim.Native.Nat.{ℕ, ◌≤◌, ◌-◌}
-use lib.ListN.{length}
+use Prim.Native.Nat.{ℕ}
 use Rattle.lent.proofs.InPlace.{changed_up_to}
 use Rattle.pattern.specs.Patterns.{bases_of}
 use Rattle.counting.specs.Counting.{count_after}
@@ -15,9 +14,5 @@ abbrev pub after : ℕ → Bool → List ℕ → List ℕ → List ℕ → ℕ �
 after base all? informative shown marks i n = count_after base all? informative (record { bases = shown; aligned = marks }) i n
 
 abbrev pub invariant-loop-i : goal.invariant-loop-i
-invariant-loop-i l = (l.i ≤ l.reached) × (length l.unconverted ≡ length l.initial.unconverted) × (length l.converted ≡ length l.initial.converted)
-    × (l.unconverted ≡ changed_up_to (after (bases_of l.pattern).unconverted l.count_all_positions l.informative l.bases l.aligned) l.i l.initial.unconverted)
+invariant-loop-i l = (l.unconverted ≡ changed_up_to (after (bases_of l.pattern).unconverted l.count_all_positions l.informative l.bases l.aligned) l.i l.initial.unconverted)
     × (l.converted ≡ changed_up_to (after (bases_of l.pattern).converted l.count_all_positions l.informative l.bases l.aligned) l.i l.initial.converted)
-
-abbrev pub decreases-loop-i : goal.decreases-loop-i
-decreases-loop-i l = l.reached - l.i

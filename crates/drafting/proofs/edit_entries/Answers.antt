@@ -1,3 +1,4 @@
+use Rattle.std.specs.Prelude.{Ok, Err}
 use mathlib.Core.Path.{◌∙◌, ◌≡◌, ap, refl, subst, sym}
 use Prim.Native.Nat.{◌+◌, ◌-◌, ◌<◌, ◌≤◌, ℕ}
 use native.Mathlib.Omega.{arith}
@@ -6,15 +7,14 @@ use lib.ListN.{drop, length, length-take, take}
 use Rattle.entries.proofs.PutLaws.{put_behind, put_few}
 use Rattle.drafting.specs.Walks.{EntriesEdited, pen_of, spots_put}
 use Rattle.drafting.specs.declared.Cursor.{Cursor}
-use Rattle.drafting.specs.declared.Edited.TheVariants.{To}
 use Rattle.drafting.proofs.DraftLaws.{put_end, put_one}
 use Rattle.changing.proofs.EntryLaws.{Went, reached_refused, reached_went}
-use Rattle.entries.specs.Answers.{reached_refusal, reached_says}
+use Rattle.entries.specs.Answers.{reached_says}
 use Rattle.entries.specs.declared.Pen.{Pen}
 use Rattle.changing.specs.Drafts.{draft, entry_put}
 use Rattle.changing.specs.Windows.{denied_in, held_in, is_marked}
 use Rattle.lent.proofs.Outcome.{on_done_refused}
-use Rattle.lent.specs.Outcome.{on_done, refused}
+use Rattle.lent.specs.Outcome.{on_done}
 use Rattle.samtags.proofs.Behind.{behind_start}
 use Rattle.samtags.specs.Decimal.{value}
 use Rattle.samtags.specs.Reading.{read_spots}
@@ -24,6 +24,7 @@ use Rattle.places.proofs.TextLaws.{ends_semicolon, rest_semicolon, turn_end, tur
 use Rattle.places.proofs.WalkLaws.{tracked_few}
 use Rattle.places.specs.Walk.{tracked_from}
 use Rattle.drafting.proofs.edit_entries.Goals as goal
+use Rattle.lent.proofs.Outcome.{passed_on}
 use Rattle.drafting.proofs.edit_entries.Invariants.{Walked, put_from}
 
 pub loop-at-init : goal.loop-at-init
@@ -42,12 +43,12 @@ loop-at-init c =
       refl,
     )
 
-pub read_entry-reached-requires : goal.read_entry-reached-requires
-read_entry-reached-requires c = (omega arith, omega arith, c.requires.seq_len_bound.3)
+pub read_entry-requires : goal.read_entry-requires
+read_entry-requires c = (omega arith, omega arith, c.requires.seq_len_bound.3)
 
-pub returns-in_default : goal.returns-in_default
+pub returns-in_err-place : goal.returns-in_err-place
 unfolding tracked tracked_from
-returns-in_default c =
+returns-in_err-place c =
     let held = held_in c.args.window.lo c.args.after.now c.args.kind.base in
     let denied = denied_in c.args.marks.now c.args.kind.may_drop in
     let places = tracked_from c.args.kind.base c.loop-at.from.0 c.args.seq.now in
@@ -56,24 +57,23 @@ returns-in_default c =
       c.loop-at.invariant.0,
       c.requires,
     ) in
-    on_done_refused _ _ _ (c.loop-at.invariant.7
+    rw (passed_on _ _ c.from_residual.ensures.1) (on_done_refused _ _ _ (c.loop-at.invariant.7
     ∙ ap (on_done (spots_put held (is_marked c.args.marks.now) (draft c.loop-at.out c.loop-at.pen.end c.loop-at.ml_out c.loop-at.pen.kept) c.loop-at.pen.gap))
     (turn_refused c.args.kind.values denied c.args.text.now c.loop-at.at low c.loop-at-test.true c.next_field-field.result.now c.next_field-field.ensures
-    places c.args.ml.now c.loop-at.used c.in_default.field-0
-    (reached_refused held denied c.args.kind.values c.next_field-field.result.now places (length c.args.ml.now - c.loop-at.used) c.in_default.field-0
-    (sym (ap reached_says c.in_default.is) ∙ c.read_entry-reached.ensures)))
-    ∙ ap refused (sym (c.refusal.ensures ∙ ap reached_refusal c.in_default.is)))
+    places c.args.ml.now c.loop-at.used c.in_err-place.field-0.0
+    (reached_refused held denied c.args.kind.values c.next_field-field.result.now places (length c.args.ml.now - c.loop-at.used) c.in_err-place.field-0.0
+    (sym (ap reached_says c.in_err-place.was) ∙ c.read_entry.ensures)))))
 
 pub past-waiting-requires : goal.past-waiting-requires
 past-waiting-requires c =
     let known : Walked c.args.seq.now c.args.after.now c.args.marks.now c.args.text.now c.args.ml.now c.args.window c.args.kind c.args.out.now c.args.ml_out.now c.args.kind.values c.args.start.at c.args.start.used (pen_of c.args.start) c.loop-at.from c.loop-at.out c.loop-at.ml_out c.loop-at.at c.loop-at.used c.loop-at.pen c.loop-at.from = subst (λ (p : Pen). Walked c.args.seq.now c.args.after.now c.args.marks.now c.args.text.now c.args.ml.now c.args.window c.args.kind c.args.out.now c.args.ml_out.now
     c.args.kind.values c.args.start.at c.args.start.used p c.loop-at.from c.loop-at.out c.loop-at.ml_out c.loop-at.at c.loop-at.used c.loop-at.pen c.loop-at.from)
     c.pen-pen.ensures c.loop-at.invariant in
-    let went : Went (held_in c.args.window.lo c.args.after.now c.args.kind.base) (denied_in c.args.marks.now c.args.kind.may_drop) c.args.kind.values c.next_field-field.result.now c.args.kind.base c.loop-at.from.0 c.args.seq.now (length c.args.ml.now - c.loop-at.used) c.in-On.place.0 c.in-On.passed.0 = reached_went (held_in c.args.window.lo c.args.after.now c.args.kind.base) (denied_in c.args.marks.now c.args.kind.may_drop) c.args.kind.values
+    let went : Went (held_in c.args.window.lo c.args.after.now c.args.kind.base) (denied_in c.args.marks.now c.args.kind.may_drop) c.args.kind.values c.next_field-field.result.now c.args.kind.base c.loop-at.from.0 c.args.seq.now (length c.args.ml.now - c.loop-at.used) c.in_ok-place.place.0 c.in_ok-place.passed.0 = reached_went (held_in c.args.window.lo c.args.after.now c.args.kind.base) (denied_in c.args.marks.now c.args.kind.may_drop) c.args.kind.values
     c.next_field-field.result.now c.args.kind.base
-    c.loop-at.from.0 c.args.seq.now (length c.args.ml.now - c.loop-at.used) c.in-On.place.0 c.in-On.passed.0
-    (sym (ap reached_says c.in-On.is) ∙ c.read_entry-reached.ensures) in
-    let bounds : (c.loop-at.used + c.args.kind.values ≤ length c.args.ml.now) × (length c.args.ml.now ≤ 65536) × (c.loop-at.at < length c.args.text.now) × (c.loop-at.at + 1 + length c.next_field-field.result.now < length c.args.text.now) × (length c.args.text.now ≤ 65536) × (c.loop-at.pen.end ≤ 131072) × (c.loop-at.pen.kept ≤ 131072) × (c.loop-at.pen.gap + c.in-On.passed.0 ≤ 16000) = (let i = known in
+    c.loop-at.from.0 c.args.seq.now (length c.args.ml.now - c.loop-at.used) c.in_ok-place.place.0 c.in_ok-place.passed.0
+    (sym (ap reached_says c.in_ok-place.was) ∙ c.read_entry.ensures) in
+    let bounds : (c.loop-at.used + c.args.kind.values ≤ length c.args.ml.now) × (length c.args.ml.now ≤ 65536) × (c.loop-at.at < length c.args.text.now) × (c.loop-at.at + 1 + length c.next_field-field.result.now < length c.args.text.now) × (length c.args.text.now ≤ 65536) × (c.loop-at.pen.end ≤ 131072) × (c.loop-at.pen.kept ≤ 131072) × (c.loop-at.pen.gap + c.in_ok-place.passed.0 ≤ 16000) = (let i = known in
     let w = went in
     let low : c.loop-at.at < length c.args.text.now = omega (
       arith,
@@ -99,11 +99,11 @@ overflow_add-own c =
     let known : Walked c.args.seq.now c.args.after.now c.args.marks.now c.args.text.now c.args.ml.now c.args.window c.args.kind c.args.out.now c.args.ml_out.now c.args.kind.values c.args.start.at c.args.start.used (pen_of c.args.start) c.loop-at.from c.loop-at.out c.loop-at.ml_out c.loop-at.at c.loop-at.used c.loop-at.pen c.loop-at.from = subst (λ (p : Pen). Walked c.args.seq.now c.args.after.now c.args.marks.now c.args.text.now c.args.ml.now c.args.window c.args.kind c.args.out.now c.args.ml_out.now
     c.args.kind.values c.args.start.at c.args.start.used p c.loop-at.from c.loop-at.out c.loop-at.ml_out c.loop-at.at c.loop-at.used c.loop-at.pen c.loop-at.from)
     c.pen-pen.ensures c.loop-at.invariant in
-    let went : Went (held_in c.args.window.lo c.args.after.now c.args.kind.base) (denied_in c.args.marks.now c.args.kind.may_drop) c.args.kind.values c.next_field-field.result.now c.args.kind.base c.loop-at.from.0 c.args.seq.now (length c.args.ml.now - c.loop-at.used) c.in-On.place.0 c.in-On.passed.0 = reached_went (held_in c.args.window.lo c.args.after.now c.args.kind.base) (denied_in c.args.marks.now c.args.kind.may_drop) c.args.kind.values
+    let went : Went (held_in c.args.window.lo c.args.after.now c.args.kind.base) (denied_in c.args.marks.now c.args.kind.may_drop) c.args.kind.values c.next_field-field.result.now c.args.kind.base c.loop-at.from.0 c.args.seq.now (length c.args.ml.now - c.loop-at.used) c.in_ok-place.place.0 c.in_ok-place.passed.0 = reached_went (held_in c.args.window.lo c.args.after.now c.args.kind.base) (denied_in c.args.marks.now c.args.kind.may_drop) c.args.kind.values
     c.next_field-field.result.now c.args.kind.base
-    c.loop-at.from.0 c.args.seq.now (length c.args.ml.now - c.loop-at.used) c.in-On.place.0 c.in-On.passed.0
-    (sym (ap reached_says c.in-On.is) ∙ c.read_entry-reached.ensures) in
-    let bounds : (c.loop-at.used + c.args.kind.values ≤ length c.args.ml.now) × (length c.args.ml.now ≤ 65536) × (c.loop-at.at < length c.args.text.now) × (c.loop-at.at + 1 + length c.next_field-field.result.now < length c.args.text.now) × (length c.args.text.now ≤ 65536) × (c.loop-at.pen.end ≤ 131072) × (c.loop-at.pen.kept ≤ 131072) × (c.loop-at.pen.gap + c.in-On.passed.0 ≤ 16000) = (let i = known in
+    c.loop-at.from.0 c.args.seq.now (length c.args.ml.now - c.loop-at.used) c.in_ok-place.place.0 c.in_ok-place.passed.0
+    (sym (ap reached_says c.in_ok-place.was) ∙ c.read_entry.ensures) in
+    let bounds : (c.loop-at.used + c.args.kind.values ≤ length c.args.ml.now) × (length c.args.ml.now ≤ 65536) × (c.loop-at.at < length c.args.text.now) × (c.loop-at.at + 1 + length c.next_field-field.result.now < length c.args.text.now) × (length c.args.text.now ≤ 65536) × (c.loop-at.pen.end ≤ 131072) × (c.loop-at.pen.kept ≤ 131072) × (c.loop-at.pen.gap + c.in_ok-place.passed.0 ≤ 16000) = (let i = known in
     let w = went in
     let low : c.loop-at.at < length c.args.text.now = omega (
       arith,
@@ -129,11 +129,11 @@ slice_bounds-own-end c =
     let known : Walked c.args.seq.now c.args.after.now c.args.marks.now c.args.text.now c.args.ml.now c.args.window c.args.kind c.args.out.now c.args.ml_out.now c.args.kind.values c.args.start.at c.args.start.used (pen_of c.args.start) c.loop-at.from c.loop-at.out c.loop-at.ml_out c.loop-at.at c.loop-at.used c.loop-at.pen c.loop-at.from = subst (λ (p : Pen). Walked c.args.seq.now c.args.after.now c.args.marks.now c.args.text.now c.args.ml.now c.args.window c.args.kind c.args.out.now c.args.ml_out.now
     c.args.kind.values c.args.start.at c.args.start.used p c.loop-at.from c.loop-at.out c.loop-at.ml_out c.loop-at.at c.loop-at.used c.loop-at.pen c.loop-at.from)
     c.pen-pen.ensures c.loop-at.invariant in
-    let went : Went (held_in c.args.window.lo c.args.after.now c.args.kind.base) (denied_in c.args.marks.now c.args.kind.may_drop) c.args.kind.values c.next_field-field.result.now c.args.kind.base c.loop-at.from.0 c.args.seq.now (length c.args.ml.now - c.loop-at.used) c.in-On.place.0 c.in-On.passed.0 = reached_went (held_in c.args.window.lo c.args.after.now c.args.kind.base) (denied_in c.args.marks.now c.args.kind.may_drop) c.args.kind.values
+    let went : Went (held_in c.args.window.lo c.args.after.now c.args.kind.base) (denied_in c.args.marks.now c.args.kind.may_drop) c.args.kind.values c.next_field-field.result.now c.args.kind.base c.loop-at.from.0 c.args.seq.now (length c.args.ml.now - c.loop-at.used) c.in_ok-place.place.0 c.in_ok-place.passed.0 = reached_went (held_in c.args.window.lo c.args.after.now c.args.kind.base) (denied_in c.args.marks.now c.args.kind.may_drop) c.args.kind.values
     c.next_field-field.result.now c.args.kind.base
-    c.loop-at.from.0 c.args.seq.now (length c.args.ml.now - c.loop-at.used) c.in-On.place.0 c.in-On.passed.0
-    (sym (ap reached_says c.in-On.is) ∙ c.read_entry-reached.ensures) in
-    let bounds : (c.loop-at.used + c.args.kind.values ≤ length c.args.ml.now) × (length c.args.ml.now ≤ 65536) × (c.loop-at.at < length c.args.text.now) × (c.loop-at.at + 1 + length c.next_field-field.result.now < length c.args.text.now) × (length c.args.text.now ≤ 65536) × (c.loop-at.pen.end ≤ 131072) × (c.loop-at.pen.kept ≤ 131072) × (c.loop-at.pen.gap + c.in-On.passed.0 ≤ 16000) = (let i = known in
+    c.loop-at.from.0 c.args.seq.now (length c.args.ml.now - c.loop-at.used) c.in_ok-place.place.0 c.in_ok-place.passed.0
+    (sym (ap reached_says c.in_ok-place.was) ∙ c.read_entry.ensures) in
+    let bounds : (c.loop-at.used + c.args.kind.values ≤ length c.args.ml.now) × (length c.args.ml.now ≤ 65536) × (c.loop-at.at < length c.args.text.now) × (c.loop-at.at + 1 + length c.next_field-field.result.now < length c.args.text.now) × (length c.args.text.now ≤ 65536) × (c.loop-at.pen.end ≤ 131072) × (c.loop-at.pen.kept ≤ 131072) × (c.loop-at.pen.gap + c.in_ok-place.passed.0 ≤ 16000) = (let i = known in
     let w = went in
     let low : c.loop-at.at < length c.args.text.now = omega (
       arith,
@@ -159,11 +159,11 @@ put_entry-pen-requires c =
     let known : Walked c.args.seq.now c.args.after.now c.args.marks.now c.args.text.now c.args.ml.now c.args.window c.args.kind c.args.out.now c.args.ml_out.now c.args.kind.values c.args.start.at c.args.start.used (pen_of c.args.start) c.loop-at.from c.loop-at.out c.loop-at.ml_out c.loop-at.at c.loop-at.used c.loop-at.pen c.loop-at.from = subst (λ (p : Pen). Walked c.args.seq.now c.args.after.now c.args.marks.now c.args.text.now c.args.ml.now c.args.window c.args.kind c.args.out.now c.args.ml_out.now
     c.args.kind.values c.args.start.at c.args.start.used p c.loop-at.from c.loop-at.out c.loop-at.ml_out c.loop-at.at c.loop-at.used c.loop-at.pen c.loop-at.from)
     c.pen-pen.ensures c.loop-at.invariant in
-    let went : Went (held_in c.args.window.lo c.args.after.now c.args.kind.base) (denied_in c.args.marks.now c.args.kind.may_drop) c.args.kind.values c.next_field-field.result.now c.args.kind.base c.loop-at.from.0 c.args.seq.now (length c.args.ml.now - c.loop-at.used) c.in-On.place.0 c.in-On.passed.0 = reached_went (held_in c.args.window.lo c.args.after.now c.args.kind.base) (denied_in c.args.marks.now c.args.kind.may_drop) c.args.kind.values
+    let went : Went (held_in c.args.window.lo c.args.after.now c.args.kind.base) (denied_in c.args.marks.now c.args.kind.may_drop) c.args.kind.values c.next_field-field.result.now c.args.kind.base c.loop-at.from.0 c.args.seq.now (length c.args.ml.now - c.loop-at.used) c.in_ok-place.place.0 c.in_ok-place.passed.0 = reached_went (held_in c.args.window.lo c.args.after.now c.args.kind.base) (denied_in c.args.marks.now c.args.kind.may_drop) c.args.kind.values
     c.next_field-field.result.now c.args.kind.base
-    c.loop-at.from.0 c.args.seq.now (length c.args.ml.now - c.loop-at.used) c.in-On.place.0 c.in-On.passed.0
-    (sym (ap reached_says c.in-On.is) ∙ c.read_entry-reached.ensures) in
-    let bounds : (c.loop-at.used + c.args.kind.values ≤ length c.args.ml.now) × (length c.args.ml.now ≤ 65536) × (c.loop-at.at < length c.args.text.now) × (c.loop-at.at + 1 + length c.next_field-field.result.now < length c.args.text.now) × (length c.args.text.now ≤ 65536) × (c.loop-at.pen.end ≤ 131072) × (c.loop-at.pen.kept ≤ 131072) × (c.loop-at.pen.gap + c.in-On.passed.0 ≤ 16000) = (let i = known in
+    c.loop-at.from.0 c.args.seq.now (length c.args.ml.now - c.loop-at.used) c.in_ok-place.place.0 c.in_ok-place.passed.0
+    (sym (ap reached_says c.in_ok-place.was) ∙ c.read_entry.ensures) in
+    let bounds : (c.loop-at.used + c.args.kind.values ≤ length c.args.ml.now) × (length c.args.ml.now ≤ 65536) × (c.loop-at.at < length c.args.text.now) × (c.loop-at.at + 1 + length c.next_field-field.result.now < length c.args.text.now) × (length c.args.text.now ≤ 65536) × (c.loop-at.pen.end ≤ 131072) × (c.loop-at.pen.kept ≤ 131072) × (c.loop-at.pen.gap + c.in_ok-place.passed.0 ≤ 16000) = (let i = known in
     let w = went in
     let low : c.loop-at.at < length c.args.text.now = omega (
       arith,
@@ -192,10 +192,10 @@ put_entry-pen-requires c =
 
 pub overflow_add-from : goal.overflow_add-from
 overflow_add-from c =
-    let went : Went (held_in c.args.window.lo c.args.after.now c.args.kind.base) (denied_in c.args.marks.now c.args.kind.may_drop) c.args.kind.values c.next_field-field.result.now c.args.kind.base c.loop-at.from.0 c.args.seq.now (length c.args.ml.now - c.loop-at.used) c.in-On.place.0 c.in-On.passed.0 = reached_went (held_in c.args.window.lo c.args.after.now c.args.kind.base) (denied_in c.args.marks.now c.args.kind.may_drop) c.args.kind.values
+    let went : Went (held_in c.args.window.lo c.args.after.now c.args.kind.base) (denied_in c.args.marks.now c.args.kind.may_drop) c.args.kind.values c.next_field-field.result.now c.args.kind.base c.loop-at.from.0 c.args.seq.now (length c.args.ml.now - c.loop-at.used) c.in_ok-place.place.0 c.in_ok-place.passed.0 = reached_went (held_in c.args.window.lo c.args.after.now c.args.kind.base) (denied_in c.args.marks.now c.args.kind.may_drop) c.args.kind.values
     c.next_field-field.result.now c.args.kind.base
-    c.loop-at.from.0 c.args.seq.now (length c.args.ml.now - c.loop-at.used) c.in-On.place.0 c.in-On.passed.0
-    (sym (ap reached_says c.in-On.is) ∙ c.read_entry-reached.ensures) in
+    c.loop-at.from.0 c.args.seq.now (length c.args.ml.now - c.loop-at.used) c.in_ok-place.place.0 c.in_ok-place.passed.0
+    (sym (ap reached_says c.in_ok-place.was) ∙ c.read_entry.ensures) in
     omega (arith, (went).inside, c.requires.seq_len_bound.0)
 
 pub overflow_add-used : goal.overflow_add-used
@@ -203,11 +203,11 @@ overflow_add-used c =
     let known : Walked c.args.seq.now c.args.after.now c.args.marks.now c.args.text.now c.args.ml.now c.args.window c.args.kind c.args.out.now c.args.ml_out.now c.args.kind.values c.args.start.at c.args.start.used (pen_of c.args.start) c.loop-at.from c.loop-at.out c.loop-at.ml_out c.loop-at.at c.loop-at.used c.loop-at.pen c.loop-at.from = subst (λ (p : Pen). Walked c.args.seq.now c.args.after.now c.args.marks.now c.args.text.now c.args.ml.now c.args.window c.args.kind c.args.out.now c.args.ml_out.now
     c.args.kind.values c.args.start.at c.args.start.used p c.loop-at.from c.loop-at.out c.loop-at.ml_out c.loop-at.at c.loop-at.used c.loop-at.pen c.loop-at.from)
     c.pen-pen.ensures c.loop-at.invariant in
-    let went : Went (held_in c.args.window.lo c.args.after.now c.args.kind.base) (denied_in c.args.marks.now c.args.kind.may_drop) c.args.kind.values c.next_field-field.result.now c.args.kind.base c.loop-at.from.0 c.args.seq.now (length c.args.ml.now - c.loop-at.used) c.in-On.place.0 c.in-On.passed.0 = reached_went (held_in c.args.window.lo c.args.after.now c.args.kind.base) (denied_in c.args.marks.now c.args.kind.may_drop) c.args.kind.values
+    let went : Went (held_in c.args.window.lo c.args.after.now c.args.kind.base) (denied_in c.args.marks.now c.args.kind.may_drop) c.args.kind.values c.next_field-field.result.now c.args.kind.base c.loop-at.from.0 c.args.seq.now (length c.args.ml.now - c.loop-at.used) c.in_ok-place.place.0 c.in_ok-place.passed.0 = reached_went (held_in c.args.window.lo c.args.after.now c.args.kind.base) (denied_in c.args.marks.now c.args.kind.may_drop) c.args.kind.values
     c.next_field-field.result.now c.args.kind.base
-    c.loop-at.from.0 c.args.seq.now (length c.args.ml.now - c.loop-at.used) c.in-On.place.0 c.in-On.passed.0
-    (sym (ap reached_says c.in-On.is) ∙ c.read_entry-reached.ensures) in
-    let bounds : (c.loop-at.used + c.args.kind.values ≤ length c.args.ml.now) × (length c.args.ml.now ≤ 65536) × (c.loop-at.at < length c.args.text.now) × (c.loop-at.at + 1 + length c.next_field-field.result.now < length c.args.text.now) × (length c.args.text.now ≤ 65536) × (c.loop-at.pen.end ≤ 131072) × (c.loop-at.pen.kept ≤ 131072) × (c.loop-at.pen.gap + c.in-On.passed.0 ≤ 16000) = (let i = known in
+    c.loop-at.from.0 c.args.seq.now (length c.args.ml.now - c.loop-at.used) c.in_ok-place.place.0 c.in_ok-place.passed.0
+    (sym (ap reached_says c.in_ok-place.was) ∙ c.read_entry.ensures) in
+    let bounds : (c.loop-at.used + c.args.kind.values ≤ length c.args.ml.now) × (length c.args.ml.now ≤ 65536) × (c.loop-at.at < length c.args.text.now) × (c.loop-at.at + 1 + length c.next_field-field.result.now < length c.args.text.now) × (length c.args.text.now ≤ 65536) × (c.loop-at.pen.end ≤ 131072) × (c.loop-at.pen.kept ≤ 131072) × (c.loop-at.pen.gap + c.in_ok-place.passed.0 ≤ 16000) = (let i = known in
     let w = went in
     let low : c.loop-at.at < length c.args.text.now = omega (
       arith,
@@ -233,11 +233,11 @@ overflow_add-at-in-loop-at c =
     let known : Walked c.args.seq.now c.args.after.now c.args.marks.now c.args.text.now c.args.ml.now c.args.window c.args.kind c.args.out.now c.args.ml_out.now c.args.kind.values c.args.start.at c.args.start.used (pen_of c.args.start) c.loop-at.from c.loop-at.out c.loop-at.ml_out c.loop-at.at c.loop-at.used c.loop-at.pen c.loop-at.from = subst (λ (p : Pen). Walked c.args.seq.now c.args.after.now c.args.marks.now c.args.text.now c.args.ml.now c.args.window c.args.kind c.args.out.now c.args.ml_out.now
     c.args.kind.values c.args.start.at c.args.start.used p c.loop-at.from c.loop-at.out c.loop-at.ml_out c.loop-at.at c.loop-at.used c.loop-at.pen c.loop-at.from)
     c.pen-pen.ensures c.loop-at.invariant in
-    let went : Went (held_in c.args.window.lo c.args.after.now c.args.kind.base) (denied_in c.args.marks.now c.args.kind.may_drop) c.args.kind.values c.next_field-field.result.now c.args.kind.base c.loop-at.from.0 c.args.seq.now (length c.args.ml.now - c.loop-at.used) c.in-On.place.0 c.in-On.passed.0 = reached_went (held_in c.args.window.lo c.args.after.now c.args.kind.base) (denied_in c.args.marks.now c.args.kind.may_drop) c.args.kind.values
+    let went : Went (held_in c.args.window.lo c.args.after.now c.args.kind.base) (denied_in c.args.marks.now c.args.kind.may_drop) c.args.kind.values c.next_field-field.result.now c.args.kind.base c.loop-at.from.0 c.args.seq.now (length c.args.ml.now - c.loop-at.used) c.in_ok-place.place.0 c.in_ok-place.passed.0 = reached_went (held_in c.args.window.lo c.args.after.now c.args.kind.base) (denied_in c.args.marks.now c.args.kind.may_drop) c.args.kind.values
     c.next_field-field.result.now c.args.kind.base
-    c.loop-at.from.0 c.args.seq.now (length c.args.ml.now - c.loop-at.used) c.in-On.place.0 c.in-On.passed.0
-    (sym (ap reached_says c.in-On.is) ∙ c.read_entry-reached.ensures) in
-    let bounds : (c.loop-at.used + c.args.kind.values ≤ length c.args.ml.now) × (length c.args.ml.now ≤ 65536) × (c.loop-at.at < length c.args.text.now) × (c.loop-at.at + 1 + length c.next_field-field.result.now < length c.args.text.now) × (length c.args.text.now ≤ 65536) × (c.loop-at.pen.end ≤ 131072) × (c.loop-at.pen.kept ≤ 131072) × (c.loop-at.pen.gap + c.in-On.passed.0 ≤ 16000) = (let i = known in
+    c.loop-at.from.0 c.args.seq.now (length c.args.ml.now - c.loop-at.used) c.in_ok-place.place.0 c.in_ok-place.passed.0
+    (sym (ap reached_says c.in_ok-place.was) ∙ c.read_entry.ensures) in
+    let bounds : (c.loop-at.used + c.args.kind.values ≤ length c.args.ml.now) × (length c.args.ml.now ≤ 65536) × (c.loop-at.at < length c.args.text.now) × (c.loop-at.at + 1 + length c.next_field-field.result.now < length c.args.text.now) × (length c.args.text.now ≤ 65536) × (c.loop-at.pen.end ≤ 131072) × (c.loop-at.pen.kept ≤ 131072) × (c.loop-at.pen.gap + c.in_ok-place.passed.0 ≤ 16000) = (let i = known in
     let w = went in
     let low : c.loop-at.at < length c.args.text.now = omega (
       arith,
@@ -263,11 +263,11 @@ overflow_add-at-in-loop-at-2 c =
     let known : Walked c.args.seq.now c.args.after.now c.args.marks.now c.args.text.now c.args.ml.now c.args.window c.args.kind c.args.out.now c.args.ml_out.now c.args.kind.values c.args.start.at c.args.start.used (pen_of c.args.start) c.loop-at.from c.loop-at.out c.loop-at.ml_out c.loop-at.at c.loop-at.used c.loop-at.pen c.loop-at.from = subst (λ (p : Pen). Walked c.args.seq.now c.args.after.now c.args.marks.now c.args.text.now c.args.ml.now c.args.window c.args.kind c.args.out.now c.args.ml_out.now
     c.args.kind.values c.args.start.at c.args.start.used p c.loop-at.from c.loop-at.out c.loop-at.ml_out c.loop-at.at c.loop-at.used c.loop-at.pen c.loop-at.from)
     c.pen-pen.ensures c.loop-at.invariant in
-    let went : Went (held_in c.args.window.lo c.args.after.now c.args.kind.base) (denied_in c.args.marks.now c.args.kind.may_drop) c.args.kind.values c.next_field-field.result.now c.args.kind.base c.loop-at.from.0 c.args.seq.now (length c.args.ml.now - c.loop-at.used) c.in-On.place.0 c.in-On.passed.0 = reached_went (held_in c.args.window.lo c.args.after.now c.args.kind.base) (denied_in c.args.marks.now c.args.kind.may_drop) c.args.kind.values
+    let went : Went (held_in c.args.window.lo c.args.after.now c.args.kind.base) (denied_in c.args.marks.now c.args.kind.may_drop) c.args.kind.values c.next_field-field.result.now c.args.kind.base c.loop-at.from.0 c.args.seq.now (length c.args.ml.now - c.loop-at.used) c.in_ok-place.place.0 c.in_ok-place.passed.0 = reached_went (held_in c.args.window.lo c.args.after.now c.args.kind.base) (denied_in c.args.marks.now c.args.kind.may_drop) c.args.kind.values
     c.next_field-field.result.now c.args.kind.base
-    c.loop-at.from.0 c.args.seq.now (length c.args.ml.now - c.loop-at.used) c.in-On.place.0 c.in-On.passed.0
-    (sym (ap reached_says c.in-On.is) ∙ c.read_entry-reached.ensures) in
-    let bounds : (c.loop-at.used + c.args.kind.values ≤ length c.args.ml.now) × (length c.args.ml.now ≤ 65536) × (c.loop-at.at < length c.args.text.now) × (c.loop-at.at + 1 + length c.next_field-field.result.now < length c.args.text.now) × (length c.args.text.now ≤ 65536) × (c.loop-at.pen.end ≤ 131072) × (c.loop-at.pen.kept ≤ 131072) × (c.loop-at.pen.gap + c.in-On.passed.0 ≤ 16000) = (let i = known in
+    c.loop-at.from.0 c.args.seq.now (length c.args.ml.now - c.loop-at.used) c.in_ok-place.place.0 c.in_ok-place.passed.0
+    (sym (ap reached_says c.in_ok-place.was) ∙ c.read_entry.ensures) in
+    let bounds : (c.loop-at.used + c.args.kind.values ≤ length c.args.ml.now) × (length c.args.ml.now ≤ 65536) × (c.loop-at.at < length c.args.text.now) × (c.loop-at.at + 1 + length c.next_field-field.result.now < length c.args.text.now) × (length c.args.text.now ≤ 65536) × (c.loop-at.pen.end ≤ 131072) × (c.loop-at.pen.kept ≤ 131072) × (c.loop-at.pen.gap + c.in_ok-place.passed.0 ≤ 16000) = (let i = known in
     let w = went in
     let low : c.loop-at.at < length c.args.text.now = omega (
       arith,
@@ -293,11 +293,11 @@ loop-at-smaller c =
     let known : Walked c.args.seq.now c.args.after.now c.args.marks.now c.args.text.now c.args.ml.now c.args.window c.args.kind c.args.out.now c.args.ml_out.now c.args.kind.values c.args.start.at c.args.start.used (pen_of c.args.start) c.loop-at.from c.loop-at.out c.loop-at.ml_out c.loop-at.at c.loop-at.used c.loop-at.pen c.loop-at.from = subst (λ (p : Pen). Walked c.args.seq.now c.args.after.now c.args.marks.now c.args.text.now c.args.ml.now c.args.window c.args.kind c.args.out.now c.args.ml_out.now
     c.args.kind.values c.args.start.at c.args.start.used p c.loop-at.from c.loop-at.out c.loop-at.ml_out c.loop-at.at c.loop-at.used c.loop-at.pen c.loop-at.from)
     c.pen-pen.ensures c.loop-at.invariant in
-    let went : Went (held_in c.args.window.lo c.args.after.now c.args.kind.base) (denied_in c.args.marks.now c.args.kind.may_drop) c.args.kind.values c.next_field-field.result.now c.args.kind.base c.loop-at.from.0 c.args.seq.now (length c.args.ml.now - c.loop-at.used) c.in-On.place.0 c.in-On.passed.0 = reached_went (held_in c.args.window.lo c.args.after.now c.args.kind.base) (denied_in c.args.marks.now c.args.kind.may_drop) c.args.kind.values
+    let went : Went (held_in c.args.window.lo c.args.after.now c.args.kind.base) (denied_in c.args.marks.now c.args.kind.may_drop) c.args.kind.values c.next_field-field.result.now c.args.kind.base c.loop-at.from.0 c.args.seq.now (length c.args.ml.now - c.loop-at.used) c.in_ok-place.place.0 c.in_ok-place.passed.0 = reached_went (held_in c.args.window.lo c.args.after.now c.args.kind.base) (denied_in c.args.marks.now c.args.kind.may_drop) c.args.kind.values
     c.next_field-field.result.now c.args.kind.base
-    c.loop-at.from.0 c.args.seq.now (length c.args.ml.now - c.loop-at.used) c.in-On.place.0 c.in-On.passed.0
-    (sym (ap reached_says c.in-On.is) ∙ c.read_entry-reached.ensures) in
-    let bounds : (c.loop-at.used + c.args.kind.values ≤ length c.args.ml.now) × (length c.args.ml.now ≤ 65536) × (c.loop-at.at < length c.args.text.now) × (c.loop-at.at + 1 + length c.next_field-field.result.now < length c.args.text.now) × (length c.args.text.now ≤ 65536) × (c.loop-at.pen.end ≤ 131072) × (c.loop-at.pen.kept ≤ 131072) × (c.loop-at.pen.gap + c.in-On.passed.0 ≤ 16000) = (let i = known in
+    c.loop-at.from.0 c.args.seq.now (length c.args.ml.now - c.loop-at.used) c.in_ok-place.place.0 c.in_ok-place.passed.0
+    (sym (ap reached_says c.in_ok-place.was) ∙ c.read_entry.ensures) in
+    let bounds : (c.loop-at.used + c.args.kind.values ≤ length c.args.ml.now) × (length c.args.ml.now ≤ 65536) × (c.loop-at.at < length c.args.text.now) × (c.loop-at.at + 1 + length c.next_field-field.result.now < length c.args.text.now) × (length c.args.text.now ≤ 65536) × (c.loop-at.pen.end ≤ 131072) × (c.loop-at.pen.kept ≤ 131072) × (c.loop-at.pen.gap + c.in_ok-place.passed.0 ≤ 16000) = (let i = known in
     let w = went in
     let low : c.loop-at.at < length c.args.text.now = omega (
       arith,
@@ -323,11 +323,11 @@ loop-at-preserved c =
     let known : Walked c.args.seq.now c.args.after.now c.args.marks.now c.args.text.now c.args.ml.now c.args.window c.args.kind c.args.out.now c.args.ml_out.now c.args.kind.values c.args.start.at c.args.start.used (pen_of c.args.start) c.loop-at.from c.loop-at.out c.loop-at.ml_out c.loop-at.at c.loop-at.used c.loop-at.pen c.loop-at.from = subst (λ (p : Pen). Walked c.args.seq.now c.args.after.now c.args.marks.now c.args.text.now c.args.ml.now c.args.window c.args.kind c.args.out.now c.args.ml_out.now
     c.args.kind.values c.args.start.at c.args.start.used p c.loop-at.from c.loop-at.out c.loop-at.ml_out c.loop-at.at c.loop-at.used c.loop-at.pen c.loop-at.from)
     c.pen-pen.ensures c.loop-at.invariant in
-    let went : Went (held_in c.args.window.lo c.args.after.now c.args.kind.base) (denied_in c.args.marks.now c.args.kind.may_drop) c.args.kind.values c.next_field-field.result.now c.args.kind.base c.loop-at.from.0 c.args.seq.now (length c.args.ml.now - c.loop-at.used) c.in-On.place.0 c.in-On.passed.0 = reached_went (held_in c.args.window.lo c.args.after.now c.args.kind.base) (denied_in c.args.marks.now c.args.kind.may_drop) c.args.kind.values
+    let went : Went (held_in c.args.window.lo c.args.after.now c.args.kind.base) (denied_in c.args.marks.now c.args.kind.may_drop) c.args.kind.values c.next_field-field.result.now c.args.kind.base c.loop-at.from.0 c.args.seq.now (length c.args.ml.now - c.loop-at.used) c.in_ok-place.place.0 c.in_ok-place.passed.0 = reached_went (held_in c.args.window.lo c.args.after.now c.args.kind.base) (denied_in c.args.marks.now c.args.kind.may_drop) c.args.kind.values
     c.next_field-field.result.now c.args.kind.base
-    c.loop-at.from.0 c.args.seq.now (length c.args.ml.now - c.loop-at.used) c.in-On.place.0 c.in-On.passed.0
-    (sym (ap reached_says c.in-On.is) ∙ c.read_entry-reached.ensures) in
-    let bounds : (c.loop-at.used + c.args.kind.values ≤ length c.args.ml.now) × (length c.args.ml.now ≤ 65536) × (c.loop-at.at < length c.args.text.now) × (c.loop-at.at + 1 + length c.next_field-field.result.now < length c.args.text.now) × (length c.args.text.now ≤ 65536) × (c.loop-at.pen.end ≤ 131072) × (c.loop-at.pen.kept ≤ 131072) × (c.loop-at.pen.gap + c.in-On.passed.0 ≤ 16000) = (let i = known in
+    c.loop-at.from.0 c.args.seq.now (length c.args.ml.now - c.loop-at.used) c.in_ok-place.place.0 c.in_ok-place.passed.0
+    (sym (ap reached_says c.in_ok-place.was) ∙ c.read_entry.ensures) in
+    let bounds : (c.loop-at.used + c.args.kind.values ≤ length c.args.ml.now) × (length c.args.ml.now ≤ 65536) × (c.loop-at.at < length c.args.text.now) × (c.loop-at.at + 1 + length c.next_field-field.result.now < length c.args.text.now) × (length c.args.text.now ≤ 65536) × (c.loop-at.pen.end ≤ 131072) × (c.loop-at.pen.kept ≤ 131072) × (c.loop-at.pen.gap + c.in_ok-place.passed.0 ≤ 16000) = (let i = known in
     let w = went in
     let low : c.loop-at.at < length c.args.text.now = omega (
       arith,
@@ -348,8 +348,8 @@ loop-at-preserved c =
     )) in
     let w = went in
     let b = bounds in
-    let p = c.in-On.place.0 in
-    let n = c.in-On.passed.0 in
+    let p = c.in_ok-place.place.0 in
+    let n = c.in_ok-place.passed.0 in
     let t = c.args.text.now in
     let held = held_in c.args.window.lo c.args.after.now c.args.kind.base in
     let named = is_marked c.args.marks.now in
@@ -400,7 +400,7 @@ returns c =
     let w = draft c.loop-at.out c.loop-at.pen.end c.loop-at.ml_out c.loop-at.pen.kept in
     subst (λ (d : Cursor). EntriesEdited held (is_marked c.args.marks.now) t c.args.ml.now c.args.start
     (read_spots c.args.kind.values denied (led_by 44 (up_to 59 (drop c.args.start.at t))) (tracked c.args.kind.base c.args.seq.now) (drop c.args.start.used c.args.ml.now))
-    c.args.out.now c.args.ml_out.now (To d) c.loop-at.out c.loop-at.ml_out) (sym c.behind.ensures) (
+    c.args.out.now c.args.ml_out.now (Ok d) c.loop-at.out c.loop-at.ml_out) (sym c.behind.ensures) (
       omega (arith, i.0, rest_semicolon t c.loop-at.at low semi),
       i.3,
       i.4.0,

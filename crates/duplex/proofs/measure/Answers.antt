@@ -1,12 +1,12 @@
 -- `measure` makes the checks in order, and then measures both strands' own tags.
 -- Assumes nothing.
+use Rattle.std.specs.Prelude.{Ok}
 use mathlib.Core.Path.{◌∙◌, ◌≡◌, ap, sym}
 use mathlib.Core.Bool.{◌||◌, cond, false, true}
 use lib.Dec.{eqb}
 use Rattle.duplex.proofs.Admitted.{all_pass, first_differs, first_long, not_counted, second_differs, second_long}
 use Rattle.duplex.specs.Duplex.{strand}
 use Rattle.duplex.specs.Measured.{both_sizes, restored_seq}
-use Rattle.lent.specs.Outcome.{done}
 use Rattle.samtags.specs.Building.{Strand, evidence_agrees, evidence_in_domain}
 use Rattle.strand.proofs.Lengths.{Lengths, lengths_known}
 use Rattle.duplex.proofs.measure.Goals as goal
@@ -101,4 +101,4 @@ returns c =
     let r : evidence_agrees first.evidence bases ≡ true = sym c.agree-first_same.ensures ∙ c.if-not-first_same.false in
     let s : cond two? (evidence_agrees second.evidence bases) true ≡ true = sym c.second_agrees-second_same.ensures ∙ c.if-not-second_same.false in
     let is : c.measure.result ≡ sizes = λ j. record { first_text = c.measure.ensures.0 j; first_values = c.measure.ensures.1 j; second_text = c.measure.ensures.2 j; second_values = c.measure.ensures.3 j } in
-    ap done is ∙ sym (all_pass c.args.strands bases first second sizes k p q r s)
+    ap Ok is ∙ sym (all_pass c.args.strands bases first second sizes k p q r s)

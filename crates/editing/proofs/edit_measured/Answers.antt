@@ -1,6 +1,8 @@
 -- `edit_measured`: the first walk refuses or measures, and a tag that does not fit is refused with 12. The second walk, over the lent rows, writes the
 -- same groups.
 -- Assumes nothing.
+use Rattle.std.specs.Prelude.{Ok, Err}
+use Rattle.drafting.specs.declared.Cursor.{Cursor}
 use mathlib.Core.Path.{◌∙◌, ◌≡◌, ap, subst}
 use Prim.Native.Nat.{◌-◌, ◌≤◌, ℕ}
 use native.Mathlib.Omega.{arith}
@@ -11,11 +13,10 @@ use Rattle.editing.proofs.TagLaws.{done_leaves, edited_passed, edited_taken, ref
 use Rattle.samtags.specs.Writing.{sizes_of}
 use Rattle.editing.specs.Rewrote.{rewrote, values_with}
 use Rattle.editing.specs.Tags.{TagMeasured}
-use Rattle.drafting.specs.Walks.{TagEdited, edited_refusal}
+use Rattle.drafting.specs.Walks.{TagEdited}
 use Rattle.changing.specs.Windows.{is_marked, window_edit}
-use Rattle.drafting.specs.declared.Edited.{Edited}
 use Rattle.lent.proofs.Outcome.{on_done_inv}
-use Rattle.lent.specs.Outcome.{Outcome, done, refused}
+use Rattle.lent.specs.Outcome.{Outcome}
 use Rattle.lent.specs.declared.Refusal.{Refusal}
 use Rattle.lent.proofs.Tests.{cond_at_most}
 use Rattle.samtags.proofs.Taken.{taken_again, taken_is}
@@ -23,6 +24,7 @@ use Rattle.samtags.specs.Edits.{edited}
 use Rattle.samtags.specs.Reading.{read_groups}
 use Rattle.samtags.specs.Text.{closed_by}
 use Rattle.samtags.specs.Writing.{Tag}
+use Rattle.lent.proofs.Outcome.{passed_on}
 use Rattle.editing.proofs.edit_measured.Goals as goal
 
 pub slice_bounds-measure-end : goal.slice_bounds-measure-end
@@ -34,8 +36,8 @@ slice_bounds-measure-end c = omega (
       c.args.ml.now),
 )
 
-pub measure-measured-requires : goal.measure-measured-requires
-measure-measured-requires c =
+pub measure-requires : goal.measure-requires
+measure-requires c =
     let taken : take (c.values_taken-taken.result - 0) c.args.ml.now ≡ cond c.args.has_ml c.args.ml.now [] = (let n : c.values_taken-taken.result - 0 ≡ cond c.args.has_ml (length
     c.args.ml.now) 0 = omega (arith, c.values_taken-taken.ensures) in
     taken_is c.args.has_ml
@@ -52,19 +54,19 @@ measure-measured-requires c =
       rw (taken) (taken_again c.args.has_ml c.args.ml.now),
     )
 
-pub returns-in_default : goal.returns-in_default
-returns-in_default c =
+pub returns-in_err-size : goal.returns-in_err-size
+returns-in_err-size c =
     let outcome : Outcome Tag = edited (window_edit c.args.lo c.args.after.now c.args.marks.now) c.args.has_ml c.args.seq.now c.args.mm.now c.args.ml.now in
     let taken : take (c.values_taken-taken.result - 0) c.args.ml.now ≡ cond c.args.has_ml c.args.ml.now [] = (let n : c.values_taken-taken.result - 0 ≡ cond c.args.has_ml (length
     c.args.ml.now) 0 = omega (arith, c.values_taken-taken.ensures) in
     taken_is c.args.has_ml
     c.args.ml.now (c.values_taken-taken.result - 0) n) in
-    let walked : (r : Edited) → c.measure-measured.result ≡ r → TagMeasured (outcome) r = λ r e. (let same = edited_taken (window_edit c.args.lo c.args.after.now c.args.marks.now) c.args.has_ml c.args.seq.now c.args.mm.now c.args.ml.now _ (taken) in
+    let walked : (r : Outcome Cursor) → c.measure.result ≡ r → TagMeasured (outcome) r = λ r e. (let same = edited_taken (window_edit c.args.lo c.args.after.now c.args.marks.now) c.args.has_ml c.args.seq.now c.args.mm.now c.args.ml.now _ (taken) in
     subst (TagMeasured (outcome)) e (subst (λ (o : Outcome Tag).
-    TagMeasured o c.measure-measured.result) same c.measure-measured.ensures)) in
-    ap (λ (r : Refusal). rewrote (refused r) c.args.mm_out.now c.args.ml_out.now) (c.refusal.ensures ∙ ap edited_refusal c.in_default.is)
-    ∙ refused_leaves c.args.has_ml c.args.mm_out.now c.args.ml_out.now c.in_default.field-0 (outcome) (walked _
-    c.in_default.is)
+    TagMeasured o c.measure.result) same c.measure.ensures)) in
+    ap (λ (o : Outcome _). rewrote o c.args.mm_out.now c.args.ml_out.now) (passed_on _ _ c.from_residual.ensures.1)
+    ∙ refused_leaves c.args.has_ml c.args.mm_out.now c.args.ml_out.now c.in_err-size.field-0.0 (outcome) (walked _
+    c.in_err-size.was)
 
 pub returns-then-mm_out-end : goal.returns-then-mm_out-end
 returns-then-mm_out-end c =
@@ -73,12 +75,12 @@ returns-then-mm_out-end c =
     c.args.ml.now) 0 = omega (arith, c.values_taken-taken.ensures) in
     taken_is c.args.has_ml
     c.args.ml.now (c.values_taken-taken.result - 0) n) in
-    let walked : (r : Edited) → c.measure-measured.result ≡ r → TagMeasured (outcome) r = λ r e. (let same = edited_taken (window_edit c.args.lo c.args.after.now c.args.marks.now) c.args.has_ml c.args.seq.now c.args.mm.now c.args.ml.now _ (taken) in
+    let walked : (r : Outcome Cursor) → c.measure.result ≡ r → TagMeasured (outcome) r = λ r e. (let same = edited_taken (window_edit c.args.lo c.args.after.now c.args.marks.now) c.args.has_ml c.args.seq.now c.args.mm.now c.args.ml.now _ (taken) in
     subst (TagMeasured (outcome)) e (subst (λ (o : Outcome Tag).
-    TagMeasured o c.measure-measured.result) same c.measure-measured.ensures)) in
-    let known : (u : Tag) × (outcome ≡ done u) × (sizes_of u ≡ (c.in-To.size.end, c.in-To.size.kept)) = on_done_inv sizes_of (outcome) _ (walked
-    _ c.in-To.is) in
-    let text_size : length (known).0.text ≡ c.in-To.size.end = ap (λ (n : ℕ × ℕ). n.0) (known).2 in
+    TagMeasured o c.measure.result) same c.measure.ensures)) in
+    let known : (u : Tag) × (outcome ≡ Ok u) × (sizes_of u ≡ (c.in_ok-size.size.end, c.in_ok-size.size.kept)) = on_done_inv sizes_of (outcome) _ (walked
+    _ c.in_ok-size.was) in
+    let text_size : length (known).0.text ≡ c.in_ok-size.size.end = ap (λ (n : ℕ × ℕ). n.0) (known).2 in
     let values_known : values_with c.args.has_ml (known).0 ≡ (known).0.ml = values_with_lem (window_edit c.args.lo c.args.after.now c.args.marks.now) c.args.has_ml c.args.seq.now c.args.mm.now c.args.ml.now (known).0 (known).1 in
     let w = known in
     short_text c.args.has_ml c.args.mm_out.now c.args.ml_out.now (outcome) w.0 w.1 (values_known) (omega
@@ -91,13 +93,13 @@ returns-then-ml_out-kept c =
     c.args.ml.now) 0 = omega (arith, c.values_taken-taken.ensures) in
     taken_is c.args.has_ml
     c.args.ml.now (c.values_taken-taken.result - 0) n) in
-    let walked : (r : Edited) → c.measure-measured.result ≡ r → TagMeasured (outcome) r = λ r e. (let same = edited_taken (window_edit c.args.lo c.args.after.now c.args.marks.now) c.args.has_ml c.args.seq.now c.args.mm.now c.args.ml.now _ (taken) in
+    let walked : (r : Outcome Cursor) → c.measure.result ≡ r → TagMeasured (outcome) r = λ r e. (let same = edited_taken (window_edit c.args.lo c.args.after.now c.args.marks.now) c.args.has_ml c.args.seq.now c.args.mm.now c.args.ml.now _ (taken) in
     subst (TagMeasured (outcome)) e (subst (λ (o : Outcome Tag).
-    TagMeasured o c.measure-measured.result) same c.measure-measured.ensures)) in
-    let known : (u : Tag) × (outcome ≡ done u) × (sizes_of u ≡ (c.in-To.size.end, c.in-To.size.kept)) = on_done_inv sizes_of (outcome) _ (walked
-    _ c.in-To.is) in
-    let text_size : length (known).0.text ≡ c.in-To.size.end = ap (λ (n : ℕ × ℕ). n.0) (known).2 in
-    let ml_size : length (known).0.ml ≡ c.in-To.size.kept = ap (λ (n : ℕ × ℕ). n.1) (known).2 in
+    TagMeasured o c.measure.result) same c.measure.ensures)) in
+    let known : (u : Tag) × (outcome ≡ Ok u) × (sizes_of u ≡ (c.in_ok-size.size.end, c.in_ok-size.size.kept)) = on_done_inv sizes_of (outcome) _ (walked
+    _ c.in_ok-size.was) in
+    let text_size : length (known).0.text ≡ c.in_ok-size.size.end = ap (λ (n : ℕ × ℕ). n.0) (known).2 in
+    let ml_size : length (known).0.ml ≡ c.in_ok-size.size.kept = ap (λ (n : ℕ × ℕ). n.1) (known).2 in
     let values_known : values_with c.args.has_ml (known).0 ≡ (known).0.ml = values_with_lem (window_edit c.args.lo c.args.after.now c.args.marks.now) c.args.has_ml c.args.seq.now c.args.mm.now c.args.ml.now (known).0 (known).1 in
     let w = known in
     short_ml c.args.has_ml c.args.mm_out.now c.args.ml_out.now (outcome) w.0 w.1 (values_known) (omega
@@ -120,11 +122,11 @@ edit_groups-requires c =
     c.args.ml.now) 0 = omega (arith, c.values_taken-taken.ensures) in
     taken_is c.args.has_ml
     c.args.ml.now (c.values_taken-taken.result - 0) n) in
-    let walked : (r : Edited) → c.measure-measured.result ≡ r → TagMeasured (outcome) r = λ r e. (let same = edited_taken (window_edit c.args.lo c.args.after.now c.args.marks.now) c.args.has_ml c.args.seq.now c.args.mm.now c.args.ml.now _ (taken) in
+    let walked : (r : Outcome Cursor) → c.measure.result ≡ r → TagMeasured (outcome) r = λ r e. (let same = edited_taken (window_edit c.args.lo c.args.after.now c.args.marks.now) c.args.has_ml c.args.seq.now c.args.mm.now c.args.ml.now _ (taken) in
     subst (TagMeasured (outcome)) e (subst (λ (o : Outcome Tag).
-    TagMeasured o c.measure-measured.result) same c.measure-measured.ensures)) in
-    let known : (u : Tag) × (outcome ≡ done u) × (sizes_of u ≡ (c.in-To.size.end, c.in-To.size.kept)) = on_done_inv sizes_of (outcome) _ (walked
-    _ c.in-To.is) in
+    TagMeasured o c.measure.result) same c.measure.ensures)) in
+    let known : (u : Tag) × (outcome ≡ Ok u) × (sizes_of u ≡ (c.in_ok-size.size.end, c.in_ok-size.size.kept)) = on_done_inv sizes_of (outcome) _ (walked
+    _ c.in_ok-size.was) in
     let n = c.values_taken-taken.result in
     let few : n - 0 ≤ 65536 = omega (
       arith,
@@ -144,13 +146,13 @@ returns c =
     c.args.ml.now) 0 = omega (arith, c.values_taken-taken.ensures) in
     taken_is c.args.has_ml
     c.args.ml.now (c.values_taken-taken.result - 0) n) in
-    let walked : (r : Edited) → c.measure-measured.result ≡ r → TagMeasured (outcome) r = λ r e. (let same = edited_taken (window_edit c.args.lo c.args.after.now c.args.marks.now) c.args.has_ml c.args.seq.now c.args.mm.now c.args.ml.now _ (taken) in
+    let walked : (r : Outcome Cursor) → c.measure.result ≡ r → TagMeasured (outcome) r = λ r e. (let same = edited_taken (window_edit c.args.lo c.args.after.now c.args.marks.now) c.args.has_ml c.args.seq.now c.args.mm.now c.args.ml.now _ (taken) in
     subst (TagMeasured (outcome)) e (subst (λ (o : Outcome Tag).
-    TagMeasured o c.measure-measured.result) same c.measure-measured.ensures)) in
-    let known : (u : Tag) × (outcome ≡ done u) × (sizes_of u ≡ (c.in-To.size.end, c.in-To.size.kept)) = on_done_inv sizes_of (outcome) _ (walked
-    _ c.in-To.is) in
-    let text_size : length (known).0.text ≡ c.in-To.size.end = ap (λ (n : ℕ × ℕ). n.0) (known).2 in
-    let ml_size : length (known).0.ml ≡ c.in-To.size.kept = ap (λ (n : ℕ × ℕ). n.1) (known).2 in
+    TagMeasured o c.measure.result) same c.measure.ensures)) in
+    let known : (u : Tag) × (outcome ≡ Ok u) × (sizes_of u ≡ (c.in_ok-size.size.end, c.in_ok-size.size.kept)) = on_done_inv sizes_of (outcome) _ (walked
+    _ c.in_ok-size.was) in
+    let text_size : length (known).0.text ≡ c.in_ok-size.size.end = ap (λ (n : ℕ × ℕ). n.0) (known).2 in
+    let ml_size : length (known).0.ml ≡ c.in_ok-size.size.kept = ap (λ (n : ℕ × ℕ). n.1) (known).2 in
     let values_known : values_with c.args.has_ml (known).0 ≡ (known).0.ml = values_with_lem (window_edit c.args.lo c.args.after.now c.args.marks.now) c.args.has_ml c.args.seq.now c.args.mm.now c.args.ml.now (known).0 (known).1 in
     let w = known in
     let e = window_edit c.args.lo c.args.after.now c.args.marks.now in

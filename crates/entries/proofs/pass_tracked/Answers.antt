@@ -1,4 +1,4 @@
-use mathlib.Core.Path.{◌∙◌, ◌≡◌, ap, refl, sym}
+use mathlib.Core.Path.{◌∙◌, ◌≡◌, ap, sym}
 use Prim.Native.Nat.{◌+◌, ◌-◌, ℕ}
 use native.Mathlib.Omega.{arith}
 use mathlib.Core.Bool.{Bool, cond, true}
@@ -14,56 +14,62 @@ use Rattle.places.specs.Walk.{tracked_from}
 use Rattle.entries.proofs.pass_tracked.Goals as goal
 use Rattle.entries.proofs.pass_tracked.Goals.{then-hit+else-ordinal-skip, else-hit}
 
-pub ahead-start-requires : goal.ahead-start-requires
-ahead-start-requires c = (omega arith, omega arith, c.requires.2)
-
-pub loop-pos-init : goal.loop-pos-init
-loop-pos-init c =
-    let all = between c.args.base c.args.seq.now c.args.from.0 c.ahead-start.result.place in
-    let short = places_length (holds c.args.base) c.args.from.0 (take (c.ahead-start.result.place - c.args.from.0) (drop c.args.from.0 c.args.seq.now)) in
-    let part = length-take (c.ahead-start.result.place - c.args.from.0) (drop c.args.from.0 c.args.seq.now) in
-    (c.ahead-start.ensures.1, c.ahead-start.ensures.2, omega (arith, c.ahead-start.ensures.3, short, part), omega (arith, c.ahead-start.ensures.3, c.ahead-start.ensures.4, filter_length (held_there c.args.window.lo c.args.after.now c.args.base) all), refl)
+pub loop-at-init : goal.loop-at-init
+loop-at-init c =
+    let a = c.args in
+    let seq = a.seq.now in
+    let start = c.ahead-start.result in
+    let e = c.ahead-start.ensures in
+    let all = between a.base seq a.from.0 start.place in
+    let short = places_length (holds a.base) a.from.0 (take (start.place - a.from.0) (drop a.from.0 seq)) in
+    let part = length-take (start.place - a.from.0) (drop a.from.0 seq) in
+    record {
+      not_past = e.2;
+      below = omega (arith, e.3, short, part);
+      few = omega (arith, e.3, e.4, filter_length (held_there a.window.lo a.after.now a.base) all);
+      passes = passing_behind a.window.lo a.after.now a.base seq a.from.0 start.place a.skip.0 start.passed start.held e.0 e.1 e.2 e.3 e.4;
+    }
 
 pub returns-then-ordinal-skip : goal.returns-then-ordinal-skip
 returns-then-ordinal-skip c =
-    let begun : passing (held_in c.args.window.lo c.args.after.now c.args.base) 0 c.args.skip.0 (tracked_from c.args.base c.args.from.0 c.args.seq.now) ≡ passing (held_in c.args.window.lo c.args.after.now c.args.base) c.ahead-start.result.held (c.args.skip.0 - c.ahead-start.result.passed) (tracked_from c.args.base c.ahead-start.result.place c.args.seq.now) = passing_behind c.args.window.lo c.args.after.now c.args.base c.args.seq.now c.args.from.0 c.ahead-start.result.place c.args.skip.0 c.ahead-start.result.passed c.ahead-start.result.held c.ahead-start.ensures.0 c.ahead-start.ensures.1 c.ahead-start.ensures.2 c.ahead-start.ensures.3 c.ahead-start.ensures.4 in
-    sym (begun ∙ c.loop-pos.invariant.4 ∙ passing_at (held_in c.args.window.lo c.args.after.now c.args.base) c.args.base c.args.seq.now c.loop-pos.pos.0 c.loop-pos.held.0
-    (c.args.skip.0 - c.loop-pos.ordinal.0) (omega arith) (sym c.counts-hit.ensures ∙ c.if-hit.true)
-    (omega arith))
+    let h = c.loop-at in
+    let a = c.args in
+    sym (h.invariant.passes ∙ passing_at (held_in a.window.lo a.after.now a.base) a.base a.seq.now h.at h.held.0 (a.skip.0 - h.ordinal.0) (omega arith)
+    (sym c.counts-hit.ensures ∙ c.if-hit.true) (omega arith))
 
-pub loop-pos-preserved : goal.loop-pos-preserved
-loop-pos-preserved c =
-    let i = c.loop-pos.pos.0 in
-    let n = c.args.skip.0 - c.loop-pos.ordinal.0 in
-    let held = held_in c.args.window.lo c.args.after.now c.args.base in
+pub loop-at-preserved : goal.loop-at-preserved
+loop-at-preserved c =
+    let h = c.loop-at in
+    let a = c.args in
+    let seq = a.seq.now in
+    let i = h.at in
+    let n = a.skip.0 - h.ordinal.0 in
+    let held = held_in a.window.lo a.after.now a.base in
     elim c.if-hit.branch [
       | then-hit+else-ordinal-skip w ↦
-          let counted : w.one_more-held.result.0 ≡ c.loop-pos.held.0 + cond w.stays-still.result 1 0 = w.one_more-held.ensures in
-          let hit : holds c.args.base (get_or c.args.seq.now i 0) ≡ true = sym c.counts-hit.ensures ∙ w.if-hit.true in
+          let counted : w.one_more-held.result.0 ≡ h.held.0 + cond w.stays-still.result 1 0 = w.one_more-held.ensures in
+          let hit : holds a.base (get_or seq i 0) ≡ true = sym c.counts-hit.ensures ∙ w.if-hit.true in
           let still : w.stays-still.result ≡ held i =
-          w.stays-still.ensures ∙ held_anyway c.args.window c.args.after.now c.args.seq.now c.args.base i c.requires.2 (omega arith) hit in
-          let one : w.one_more-held.result.0 ≡ c.loop-pos.held.0 + cond (held i) 1 0 = counted ∙ ap (λ (t : Bool). c.loop-pos.held.0 + cond t 1 0) still in
-          rw (w.ordinal-is, w.held-is) (
-            omega arith,
-            omega (arith, w.if-ordinal-skip.false),
-            omega arith,
-            omega (arith, one, one_at_most (held i)),
-            c.loop-pos.invariant.4 ∙ passing_on held c.args.base c.args.seq.now i c.loop-pos.held.0 n (omega arith) hit
-                (c.args.skip.0 - (c.loop-pos.ordinal.0 + 1)) (omega (arith, w.if-ordinal-skip.false))
-                ∙ ap (λ (m : ℕ). passing held m (c.args.skip.0 - (c.loop-pos.ordinal.0 + 1)) (tracked_from c.args.base (i + 1) c.args.seq.now)) (sym one),
-          )
-      | else-hit w ↦ rw (w.ordinal-is, w.held-is) (
-        omega arith,
-        omega arith,
-        omega arith,
-        omega arith,
-        c.loop-pos.invariant.4 ∙ passing_miss held c.args.base c.args.seq.now i c.loop-pos.held.0 n (omega arith)
-            (sym c.counts-hit.ensures ∙ w.if-hit.false),
-      )
+          w.stays-still.ensures ∙ held_anyway a.window a.after.now seq a.base i c.requires.2 (omega arith) hit in
+          let one : w.one_more-held.result.0 ≡ h.held.0 + cond (held i) 1 0 = counted ∙ ap (λ (t : Bool). h.held.0 + cond t 1 0) still in
+          rw (w.ordinal-is, w.held-is) (record {
+            not_past = omega (arith, w.if-ordinal-skip.false);
+            below = omega arith;
+            few = omega (arith, one, one_at_most (held i));
+            passes = h.invariant.passes ∙ passing_on held a.base seq i h.held.0 n (omega arith) hit
+                (a.skip.0 - (h.ordinal.0 + 1)) (omega (arith, w.if-ordinal-skip.false))
+                ∙ ap (λ (m : ℕ). passing held m (a.skip.0 - (h.ordinal.0 + 1)) (tracked_from a.base (i + 1) seq)) (sym one);
+          })
+      | else-hit w ↦ rw (w.ordinal-is, w.held-is) (record {
+        not_past = omega arith;
+        below = omega arith;
+        few = omega arith;
+        passes = h.invariant.passes ∙ passing_miss held a.base seq i h.held.0 n (omega arith) (sym c.counts-hit.ensures ∙ w.if-hit.false);
+      })
     ]
 
 pub returns : goal.returns
 returns c =
-    let begun : passing (held_in c.args.window.lo c.args.after.now c.args.base) 0 c.args.skip.0 (tracked_from c.args.base c.args.from.0 c.args.seq.now) ≡ passing (held_in c.args.window.lo c.args.after.now c.args.base) c.ahead-start.result.held (c.args.skip.0 - c.ahead-start.result.passed) (tracked_from c.args.base c.ahead-start.result.place c.args.seq.now) = passing_behind c.args.window.lo c.args.after.now c.args.base c.args.seq.now c.args.from.0 c.ahead-start.result.place c.args.skip.0 c.ahead-start.result.passed c.ahead-start.result.held c.ahead-start.ensures.0 c.ahead-start.ensures.1 c.ahead-start.ensures.2 c.ahead-start.ensures.3 c.ahead-start.ensures.4 in
-    sym (begun ∙ c.loop-pos.invariant.4 ∙ passing_end (held_in c.args.window.lo c.args.after.now c.args.base) c.args.base c.args.seq.now c.loop-pos.pos.0 c.loop-pos.held.0
-    (c.args.skip.0 - c.loop-pos.ordinal.0) (omega arith))
+    let h = c.loop-at in
+    let a = c.args in
+    sym (h.invariant.passes ∙ passing_end (held_in a.window.lo a.after.now a.base) a.base a.seq.now h.at h.held.0 (a.skip.0 - h.ordinal.0) (omega arith))

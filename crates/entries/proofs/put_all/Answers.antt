@@ -1,26 +1,17 @@
-use mathlib.Core.Path.{◌∙◌, ◌≡◌, ap, refl, sym}
-use Prim.Native.Nat.{◌+◌, ◌-◌, ◌≤◌, ℕ}
+use mathlib.Core.Path.{◌∙◌, ◌≡◌, ap, sym}
+use Prim.Native.Nat.{◌+◌, ◌-◌, ◌≤◌}
 use native.Mathlib.Omega.{arith}
 use mathlib.Core.Logic.{⊎_elim}
-use lib.ListN.{drop, drop_of_length-le, get_or, length, length-set}
+use lib.ListN.{drop, drop_of_length-le, length}
 use lib.Seq.{sets}
-use Rattle.lent.proofs.Stores.{sets_on, sets_out}
+use Rattle.lent.proofs.Stores.{sets_out}
 use Rattle.entries.proofs.PutLaws.{less_of}
 use Rattle.entries.proofs.put_all.Goals as goal
-
-pub loop-i-init : goal.loop-i-init
-loop-i-init c =
-    let z : c.args.at ≡ c.args.at + 0 = omega arith in
-    (omega arith, ap (λ (n : ℕ). sets c.args.out.now n c.args.bytes.now) z, refl)
-
-pub loop-i-preserved : goal.loop-i-preserved
-loop-i-preserved c =
-    (omega arith, c.loop-i.invariant.1 ∙ sets_on c.loop-i.out c.args.at c.args.bytes.now c.loop-i.i 0 (omega arith), length-set c.loop-i.out (c.args.at + c.loop-i.i) (get_or c.args.bytes.now c.loop-i.i 0) ∙ c.loop-i.invariant.2)
 
 pub returns : goal.returns
 returns c =
     let n = c.fitting-n.result in
-    let done : sets c.args.out.now c.args.at c.args.bytes.now ≡ c.loop-i.out = c.loop-i.invariant.1 ∙ ⊎_elim
+    let done : sets c.args.out.now c.args.at c.args.bytes.now ≡ c.loop-i.out = c.loop-i.invariant.0 ∙ ⊎_elim
     (λ e. let all : length c.args.bytes.now ≤ c.loop-i.i = omega arith in ap (sets c.loop-i.out (c.args.at + c.loop-i.i)) (drop_of_length-le c.args.bytes.now all))
     (λ e. sets_out (drop c.loop-i.i c.args.bytes.now) c.loop-i.out (c.args.at + c.loop-i.i) (omega arith))
     (less_of (length c.args.bytes.now) (length c.args.out.now - c.args.at) n c.fitting-n.ensures) in

@@ -1,19 +1,21 @@
 -- One more record is gated on each turn, and at the end the row is what the call leaves.
 -- Assumes nothing.
-use mathlib.Core.Path.{◌≡◌, ap, ◌∙◌}
+use Rattle.lent.specs.Outcome.{Outcome}
+use mathlib.Core.Path.{◌≡◌, ◌∙◌}
 use mathlib.Core.Bool.{false}
-use mathlib.Core.List.{List}
+use mathlib.Core.List.{List, ◌++◌, append-nil}
 use Prim.Native.Nat.{ℕ, ◌+◌, ◌≤◌, ◌<◌}
 use native.Mathlib.Numerals.{add-one}
 use native.Mathlib.Omega.{arith}
-use lib.ListN.{length, get_or, set}
-use Rattle.lent.specs.Outcome.{says}
-use Rattle.lent.specs.declared.Written.{Written}
+use lib.Dec.{leb}
+use lib.ListN.{length, get_or, take, drop, set, drop_of_length-le}
+use lib.Seq.{take_all, length-take-le}
+use Rattle.lent.proofs.Tests.{by-test}
 use Rattle.evidence.specs.PublicContracts.{GatesRow}
 use Rattle.evidence.specs.Position.{fresh, gated}
 use Rattle.evidence.specs.Row.{row_of, records_to_gate}
 use Rattle.evidence.specs.declared.MethylationEvidence.{MethylationEvidence}
-use Rattle.evidence.proofs.Rows.{gated_up_to, gated_more, gates_within, row_is_left}
+use Rattle.evidence.proofs.Rows.{gated_up_to, gated_more, length_gated, gates_within, row_is_left}
 use Rattle.evidence.proofs.gate_row.Goals as goal
 
 -- the record at place i is gated
@@ -22,20 +24,23 @@ next : (row row' : List MethylationEvidence) (i : ℕ) (e : MethylationEvidence)
 next row row' i e h is gives =
     rw (gives, is, add-one) (gated_more i row (fresh false) h)
 
--- all records to gate are gated
-at_end : (row row' : List MethylationEvidence) (i n : ℕ) (r : Written) → says r ≡ row_of (length row') → length row' ≡ length row
-    → n ≡ records_to_gate (length row) → i ≤ n → n ≤ i → row' ≡ gated_up_to i row → GatesRow row r row'
-at_end row row' i n r answered long bound h k is =
-    let e : i ≡ records_to_gate (length row) = omega arith in
-    (answered ∙ ap row_of long, is ∙ ap (λ (m : ℕ). gated_up_to m row) e ∙ row_is_left row)
+-- the records that the domain allows are all or none: gated, and with the others after them, they are the row
+joined : (row : List MethylationEvidence) → (let n = records_to_gate (length row) in gated_up_to n (take n row) ++ drop n row ≡ gated_up_to n row)
+joined row =
+    by-test (leb (length row) 16000)
+    (λ e. rw (e, take_all (length row) row (omega arith), (let all : length row ≤ length row = omega arith in drop_of_length-le row all), append-nil (gated_up_to (length row) row)))
+    (λ e. rw e)
 
-pub loop-i-preserved : goal.loop-i-preserved
-loop-i-preserved c = record {
-  within = omega arith;
-  gated_so_far =
-      next c.args.row.now c.loop-i.row c.loop-i.i c.gated.result (omega (arith, gates_within (length c.args.row.now))) c.loop-i.invariant.gated_so_far
-      c.gated.ensures;
-}
+at_end : (row items : List MethylationEvidence) (i n : ℕ) (r : Outcome ℕ) → r ≡ row_of (length (items ++ drop n row))
+    → n ≡ records_to_gate (length row) → i ≤ length (take n row) → length (take n row) ≤ i → items ≡ gated_up_to i (take n row)
+    → GatesRow row r (items ++ drop n row)
+at_end row items i n r answered bound h k is =
+    let e : i ≡ n = omega (arith, length-take-le n row (omega (arith, gates_within (length row)))) in
+    let whole : items ++ drop n row ≡ gated_up_to (records_to_gate (length row)) row = rw (is, e, bound) (joined row) in
+    (rw (whole, length_gated (records_to_gate (length row)) row) at answered, whole ∙ row_is_left row)
+
+pub loop-e-preserved : goal.loop-e-preserved
+loop-e-preserved c = next _ c.loop-e.e-items c.loop-e.e-index c.gated.result (omega arith) c.loop-e.invariant c.gated.ensures
 
 pub returns : goal.returns
-returns c = let k = c.loop-i in at_end _ _ _ _ _ c.answer_for_row.ensures k.auto.row c.records_to_gate-n.ensures k.invariant.within (omega arith) k.invariant.gated_so_far
+returns c = at_end _ _ _ _ _ c.answer_for_row.ensures c.records_to_gate-n.ensures (omega arith) (omega arith) c.loop-e.invariant

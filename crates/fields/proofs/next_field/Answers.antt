@@ -1,7 +1,7 @@
 use Prim.Native.Nat.{◌-◌}
 use native.Mathlib.Omega.{arith}
-use lib.ListN.{drop}
-use Rattle.fields.proofs.FieldLaws.{field_comma, field_end, field_on, field_part, field_semicolon}
+use lib.ListN.{drop, length}
+use Rattle.fields.proofs.FieldLaws.{field_comma, field_end, field_part, field_semicolon}
 use Rattle.fields.proofs.next_field.Goals as goal
 
 pub returns-then-text-end-eq44 : goal.returns-then-text-end-eq44
@@ -16,11 +16,7 @@ returns-then-text-end-eq59 c =
     field_part (drop a.from a.text.now) (c.loop-end.end - a.from)
     (omega (arith, field_semicolon a.text.now c.loop-end.end (omega arith) (omega arith)))
 
-pub loop-end-preserved : goal.loop-end-preserved
-loop-end-preserved c =
-    omega (arith, field_on c.args.text.now c.loop-end.end (omega arith) c.if-text-end-eq44.false c.if-text-end-eq59.false)
-
 pub returns : goal.returns
 returns c =
     let a = c.args in
-    field_part (drop a.from a.text.now) (c.loop-end.end - a.from) (omega (arith, field_end a.text.now c.loop-end.end (omega arith)))
+    field_part (drop a.from a.text.now) (length a.text.now - a.from) (omega (arith, field_end a.text.now c.loop-end.end (omega arith)))

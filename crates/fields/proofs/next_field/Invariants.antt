@@ -1,14 +1,10 @@
 -- `next_field`: the part up to the next comma or semicolon, or up to the text's end.
 -- Assumes nothing.
 use mathlib.Core.Path.{◌≡◌}
-use Prim.Native.Nat.{◌+◌, ◌-◌, ◌≤◌}
+use Prim.Native.Nat.{◌+◌, ◌-◌}
 use lib.ListN.{drop, length}
 use Rattle.fields.specs.Fields.{field_of}
 use Rattle.fields.proofs.next_field.Given as goal
 
 abbrev pub invariant-loop-end : goal.invariant-loop-end
-invariant-loop-end l = (l.from ≤ l.end) × (l.end ≤ length l.text) ×
-    (length (field_of (drop l.from l.text)) ≡ (l.end - l.from) + length (field_of (drop l.end l.text)))
-
-abbrev pub decreases-loop-end : goal.decreases-loop-end
-decreases-loop-end l = length l.text - l.end
+invariant-loop-end l = length (field_of (drop l.from l.text)) ≡ (l.end - l.from) + length (field_of (drop l.end l.text))

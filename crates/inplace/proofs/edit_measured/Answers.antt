@@ -1,5 +1,7 @@
 -- `edit_measured`: the first walk refuses or measures. An edited tag is not longer than the tag was, so the second walk writes it into its own rows.
 -- Assumes nothing.
+use Rattle.std.specs.Prelude.{Ok, Err}
+use Rattle.drafting.specs.declared.Cursor.{Cursor}
 use mathlib.Core.Path.{◌∙◌, ◌≡◌, ap, subst}
 use Prim.Native.Nat.{◌-◌, ◌≤◌, ℕ}
 use native.Mathlib.Omega.{arith}
@@ -10,12 +12,11 @@ use Rattle.changing.specs.Windows.{is_marked, window_edit}
 use Rattle.editing.proofs.TagLaws.{edited_passed, edited_taken, rows_stored, values_with_lem}
 use Rattle.editing.specs.Rewrote.{rewrote}
 use Rattle.editing.specs.Tags.{TagMeasured}
-use Rattle.drafting.specs.Walks.{TagEdited, edited_refusal}
-use Rattle.drafting.specs.declared.Edited.{Edited}
+use Rattle.drafting.specs.Walks.{TagEdited}
 use Rattle.inplace.proofs.OwnRowLaws.{done_own, front_stored, refused_own}
 use Rattle.lent.proofs.Filled.{over_stored}
 use Rattle.lent.proofs.Outcome.{on_done_inv}
-use Rattle.lent.specs.Outcome.{Outcome, done, refused}
+use Rattle.lent.specs.Outcome.{Outcome}
 use Rattle.lent.specs.declared.Refusal.{Refusal}
 use Rattle.samtags.proofs.Length.{never_longer}
 use Rattle.lent.proofs.Tests.{cond_at_most}
@@ -24,6 +25,7 @@ use Rattle.samtags.specs.Edits.{edited}
 use Rattle.samtags.specs.Reading.{read_groups}
 use Rattle.samtags.specs.Text.{closed_by}
 use Rattle.samtags.specs.Writing.{Tag, sizes_of}
+use Rattle.lent.proofs.Outcome.{passed_on}
 use Rattle.inplace.proofs.edit_measured.Goals as goal
 
 pub slice_bounds-measure-end : goal.slice_bounds-measure-end
@@ -36,8 +38,8 @@ slice_bounds-measure-end c =
     ) in
     taken_inside
 
-pub measure-measured-requires : goal.measure-measured-requires
-measure-measured-requires c =
+pub measure-requires : goal.measure-requires
+measure-requires c =
     let taken : take (c.values_taken-taken.result - 0) c.args.ml.now ≡ cond c.args.has_ml c.args.ml.now [] = (let n : c.values_taken-taken.result - 0 ≡ cond c.args.has_ml (length c.args.ml.now) 0 = omega (arith, c.values_taken-taken.ensures) in
     taken_is c.args.has_ml c.args.ml.now (c.values_taken-taken.result - 0) n) in
     let taken_short : length (take (c.values_taken-taken.result - 0) c.args.ml.now) ≤ 65536 = (let few : c.values_taken-taken.result - 0 ≤ 65536 = omega (arith, c.values_taken-taken.ensures, c.requires.2) in
@@ -49,16 +51,16 @@ measure-measured-requires c =
           (taken) (taken_again c.args.has_ml c.args.ml.now),
     )
 
-pub returns-in_default : goal.returns-in_default
-returns-in_default c =
+pub returns-in_err-size : goal.returns-in_err-size
+returns-in_err-size c =
     let outcome : Outcome Tag = edited (window_edit c.args.lo c.args.after.now c.args.marks.now) c.args.has_ml c.args.seq.now c.args.text.now c.args.ml.now in
     let taken : take (c.values_taken-taken.result - 0) c.args.ml.now ≡ cond c.args.has_ml c.args.ml.now [] = (let n : c.values_taken-taken.result - 0 ≡ cond c.args.has_ml (length c.args.ml.now) 0 = omega (arith, c.values_taken-taken.ensures) in
     taken_is c.args.has_ml c.args.ml.now (c.values_taken-taken.result - 0) n) in
-    let walked : (r : Edited) → c.measure-measured.result ≡ r → TagMeasured (outcome) r = λ r e. (let same = edited_taken (window_edit c.args.lo c.args.after.now c.args.marks.now) c.args.has_ml c.args.seq.now c.args.text.now c.args.ml.now _ (taken) in
+    let walked : (r : Outcome Cursor) → c.measure.result ≡ r → TagMeasured (outcome) r = λ r e. (let same = edited_taken (window_edit c.args.lo c.args.after.now c.args.marks.now) c.args.has_ml c.args.seq.now c.args.text.now c.args.ml.now _ (taken) in
     subst (TagMeasured (outcome)) e (subst (λ (o : Outcome
-    Tag). TagMeasured o c.measure-measured.result) same c.measure-measured.ensures)) in
-    ap (λ (r : Refusal). rewrote (refused r) c.args.text.now c.args.ml.now) (c.refusal.ensures ∙ ap edited_refusal c.in_default.is)
-    ∙ refused_own c.args.has_ml c.args.text.now c.args.ml.now (outcome) c.in_default.field-0 (walked _ c.in_default.is)
+    Tag). TagMeasured o c.measure.result) same c.measure.ensures)) in
+    ap (λ (o : Outcome _). rewrote o c.args.text.now c.args.ml.now) (passed_on _ _ c.from_residual.ensures.1)
+    ∙ refused_own c.args.has_ml c.args.text.now c.args.ml.now (outcome) c.in_err-size.field-0.0 (walked _ c.in_err-size.was)
 
 pub slice_bounds-edit_groups-end : goal.slice_bounds-edit_groups-end
 slice_bounds-edit_groups-end c =
@@ -77,10 +79,10 @@ edit_groups-requires c =
     taken_is c.args.has_ml c.args.ml.now (c.values_taken-taken.result - 0) n) in
     let taken_short : length (take (c.values_taken-taken.result - 0) c.args.ml.now) ≤ 65536 = (let few : c.values_taken-taken.result - 0 ≤ 65536 = omega (arith, c.values_taken-taken.ensures, c.requires.2) in
     omega (arith, few, length-take (c.values_taken-taken.result - 0) c.args.ml.now)) in
-    let walked : (r : Edited) → c.measure-measured.result ≡ r → TagMeasured (outcome) r = λ r e. (let same = edited_taken (window_edit c.args.lo c.args.after.now c.args.marks.now) c.args.has_ml c.args.seq.now c.args.text.now c.args.ml.now _ (taken) in
+    let walked : (r : Outcome Cursor) → c.measure.result ≡ r → TagMeasured (outcome) r = λ r e. (let same = edited_taken (window_edit c.args.lo c.args.after.now c.args.marks.now) c.args.has_ml c.args.seq.now c.args.text.now c.args.ml.now _ (taken) in
     subst (TagMeasured (outcome)) e (subst (λ (o : Outcome
-    Tag). TagMeasured o c.measure-measured.result) same c.measure-measured.ensures)) in
-    let known : (u : Tag) × (outcome ≡ done u) × (sizes_of u ≡ (c.in-To.size.end, c.in-To.size.kept)) = on_done_inv sizes_of (outcome) _ (walked _ c.in-To.is) in
+    Tag). TagMeasured o c.measure.result) same c.measure.ensures)) in
+    let known : (u : Tag) × (outcome ≡ Ok u) × (sizes_of u ≡ (c.in_ok-size.size.end, c.in_ok-size.size.kept)) = on_done_inv sizes_of (outcome) _ (walked _ c.in_ok-size.was) in
     let e = window_edit c.args.lo c.args.after.now c.args.marks.now in (
       c.requires.0,
       c.requires.1,
@@ -99,10 +101,10 @@ returns c =
       cond_at_most c.args.has_ml (length
           c.args.ml.now),
     ) in
-    let walked : (r : Edited) → c.measure-measured.result ≡ r → TagMeasured (outcome) r = λ r e. (let same = edited_taken (window_edit c.args.lo c.args.after.now c.args.marks.now) c.args.has_ml c.args.seq.now c.args.text.now c.args.ml.now _ (taken) in
+    let walked : (r : Outcome Cursor) → c.measure.result ≡ r → TagMeasured (outcome) r = λ r e. (let same = edited_taken (window_edit c.args.lo c.args.after.now c.args.marks.now) c.args.has_ml c.args.seq.now c.args.text.now c.args.ml.now _ (taken) in
     subst (TagMeasured (outcome)) e (subst (λ (o : Outcome
-    Tag). TagMeasured o c.measure-measured.result) same c.measure-measured.ensures)) in
-    let known : (u : Tag) × (outcome ≡ done u) × (sizes_of u ≡ (c.in-To.size.end, c.in-To.size.kept)) = on_done_inv sizes_of (outcome) _ (walked _ c.in-To.is) in
+    Tag). TagMeasured o c.measure.result) same c.measure.ensures)) in
+    let known : (u : Tag) × (outcome ≡ Ok u) × (sizes_of u ≡ (c.in_ok-size.size.end, c.in_ok-size.size.kept)) = on_done_inv sizes_of (outcome) _ (walked _ c.in_ok-size.was) in
     let n = c.values_taken-taken.result - 0 in
     let w = known in
     let u = w.0 in

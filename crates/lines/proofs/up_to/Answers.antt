@@ -1,22 +1,11 @@
-use Prim.Native.Nat.{◌-◌}
-use native.Mathlib.Omega.{arith}
-use lib.ListN.{drop}
-use Rattle.lines.proofs.UpToLaws.{up_to_end, up_to_on, up_to_part, up_to_stop}
+-- `up_to`: the part before the next byte c, or up to the text's end.
+-- Assumes nothing.
+use mathlib.Core.Path.{◌∙◌, sym}
+use Rattle.lines.proofs.UpToLaws.{up_to_none, up_to_some}
 use Rattle.lines.proofs.up_to.Goals as goal
 
-pub returns-then-text-end : goal.returns-then-text-end
-returns-then-text-end c =
-    let a = c.args in
-    up_to_part a.c (drop a.from a.text.now) (c.loop-end.end - a.from)
-    (omega (arith, up_to_stop a.c a.text.now c.loop-end.end (omega arith) (omega arith)))
-
-pub loop-end-preserved : goal.loop-end-preserved
-loop-end-preserved c =
-    let a = c.args in
-    omega (arith, up_to_on a.c a.text.now c.loop-end.end (omega arith) c.if-text-end.false)
+pub returns-in_default : goal.returns-in_default
+returns-in_default c = up_to_none c.args.c c.args.text.now c.args.from (sym c.first_of.ensures ∙ c.in_default.is)
 
 pub returns : goal.returns
-returns c =
-    let a = c.args in
-    up_to_part a.c (drop a.from a.text.now) (c.loop-end.end - a.from)
-    (omega (arith, up_to_end a.c a.text.now c.loop-end.end (omega arith)))
+returns c = up_to_some c.args.c c.args.text.now c.args.from c.in-Some.n (sym c.first_of.ensures ∙ c.in-Some.is)

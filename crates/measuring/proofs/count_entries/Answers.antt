@@ -3,11 +3,10 @@ use Prim.Native.Nat.{◌+◌, ◌<◌, ◌≤◌, ℕ}
 use native.Mathlib.Omega.{arith}
 use mathlib.Core.List.{[], List}
 use lib.ListN.{drop, length}
-use Rattle.lent.proofs.Outcome.{on_done_refused}
-use Rattle.lent.specs.Outcome.{on_done, refused}
+use Rattle.lent.proofs.Outcome.{on_done_refused, passed_on}
+use Rattle.lent.specs.Outcome.{on_done}
 use Rattle.samtags.specs.Reading.{nowhere}
 use Rattle.places.proofs.TextLaws.{ends_semicolon, rest_semicolon, turn_end, turn_field, turn_rest}
-use Rattle.numbers.specs.Answers.{skip_refusal, skip_says}
 use Rattle.measuring.proofs.CountLaws.{count_last, turn_eight, turn_passed, turn_seven, turn_six}
 use Rattle.measuring.specs.Counting.{spots_counted}
 use Rattle.measuring.proofs.count_entries.Goals as goal
@@ -27,18 +26,14 @@ bounds k =
     let rest = turn_rest a.values nowhere a.text.now h.at low k.loop-at-test.true f.result.now f.ensures [] a.ml.now h.used in
     omega (arith, rest)
 
-pub loop-at-init : goal.loop-at-init
-loop-at-init c = (refl, omega arith, omega arith, omega arith, omega arith, omega arith, λ places e. (places, e, refl))
-
-pub returns-in_default : goal.returns-in_default
-returns-in_default c =
+pub returns-in_err-skip : goal.returns-in_err-skip
+returns-in_err-skip c =
     let low : c.loop-at.at < length c.args.text.now = omega arith in
     λ (places : List ℕ) (e : c.args.all ≡ length places).
     let x = c.loop-at.invariant.6 places e in
-    on_done_refused _ _ _ (x.2
-    ∙ turn_six c.args.values c.args.text.now c.loop-at.at low c.loop-at-test.true c.next_field-field.result.now c.next_field-field.ensures c.args.ml.now c.loop-at.used c.loop-at.calls x.0 _ c.in_default.field-0
-    (sym (ap skip_says c.in_default.is) ∙ c.read_skip-read.ensures)
-    ∙ ap refused (sym (c.refusal.ensures ∙ ap skip_refusal c.in_default.is)))
+    rw (passed_on _ _ c.from_residual.ensures.1) (on_done_refused _ _ _ (x.2
+    ∙ turn_six c.args.values c.args.text.now c.loop-at.at low c.loop-at-test.true c.next_field-field.result.now c.next_field-field.ensures c.args.ml.now c.loop-at.used c.loop-at.calls x.0 _ c.in_err-skip.field-0.0
+    (sym c.in_err-skip.was ∙ c.read_skip.ensures)))
 
 pub returns-then-left-skip : goal.returns-then-left-skip
 returns-then-left-skip c =
@@ -46,8 +41,8 @@ returns-then-left-skip c =
     λ (places : List ℕ) (e : c.args.all ≡ length places).
     let x = c.loop-at.invariant.6 places e in
     on_done_refused _ _ _ (x.2
-    ∙ turn_seven c.args.values c.args.text.now c.loop-at.at low c.loop-at-test.true c.next_field-field.result.now c.next_field-field.ensures c.args.ml.now c.loop-at.used c.loop-at.calls x.0 c.in-Of.skip
-    (sym (ap skip_says c.in-Of.is) ∙ c.read_skip-read.ensures) (omega (arith, x.1)))
+    ∙ turn_seven c.args.values c.args.text.now c.loop-at.at low c.loop-at-test.true c.next_field-field.result.now c.next_field-field.ensures c.args.ml.now c.loop-at.used c.loop-at.calls x.0 c.in_ok-skip.skip
+    (sym c.in_ok-skip.was ∙ c.read_skip.ensures) (omega (arith, x.1)))
 
 pub returns-then-ml-used : goal.returns-then-ml-used
 returns-then-ml-used c =
@@ -55,23 +50,8 @@ returns-then-ml-used c =
     λ (places : List ℕ) (e : c.args.all ≡ length places).
     let x = c.loop-at.invariant.6 places e in
     on_done_refused _ _ _ (x.2
-    ∙ turn_eight c.args.values c.args.text.now c.loop-at.at low c.loop-at-test.true c.next_field-field.result.now c.next_field-field.ensures c.args.ml.now c.loop-at.used c.loop-at.calls x.0 c.in-Of.skip
-    (sym (ap skip_says c.in-Of.is) ∙ c.read_skip-read.ensures) (omega (arith, x.1)) (omega (arith, x.1)) (omega arith))
-
-pub overflow_add-used : goal.overflow_add-used
-overflow_add-used c = omega (arith, bounds c)
-
-pub overflow_add-calls : goal.overflow_add-calls
-overflow_add-calls c = omega (arith, bounds c)
-
-pub overflow_add-at-in-loop-at : goal.overflow_add-at-in-loop-at
-overflow_add-at-in-loop-at c = omega (arith, bounds c)
-
-pub overflow_add-at-in-loop-at-2 : goal.overflow_add-at-in-loop-at-2
-overflow_add-at-in-loop-at-2 c = omega (arith, bounds c)
-
-pub loop-at-smaller : goal.loop-at-smaller
-loop-at-smaller c = omega (arith, bounds c)
+    ∙ turn_eight c.args.values c.args.text.now c.loop-at.at low c.loop-at-test.true c.next_field-field.result.now c.next_field-field.ensures c.args.ml.now c.loop-at.used c.loop-at.calls x.0 c.in_ok-skip.skip
+    (sym c.in_ok-skip.was ∙ c.read_skip.ensures) (omega (arith, x.1)) (omega (arith, x.1)) (omega arith))
 
 pub loop-at-preserved : goal.loop-at-preserved
 loop-at-preserved c =
@@ -87,8 +67,8 @@ loop-at-preserved c =
       omega arith,
       λ (places : List ℕ) (e : c.args.all ≡ length places).
           let x = c.loop-at.invariant.6 places e in
-          let y = turn_passed c.args.values t c.loop-at.at low comma c.next_field-field.result.now c.next_field-field.ensures c.args.ml.now c.loop-at.used c.loop-at.calls x.0 c.in-Of.skip
-          (sym (ap skip_says c.in-Of.is) ∙ c.read_skip-read.ensures) (omega (arith, x.1)) (omega (arith, x.1)) (omega arith) in
+          let y = turn_passed c.args.values t c.loop-at.at low comma c.next_field-field.result.now c.next_field-field.ensures c.args.ml.now c.loop-at.used c.loop-at.calls x.0 c.in_ok-skip.skip
+          (sym c.in_ok-skip.was ∙ c.read_skip.ensures) (omega (arith, x.1)) (omega (arith, x.1)) (omega arith) in
           (y.0, omega (arith, x.1, y.1), x.2 ∙ y.2),
     )
 

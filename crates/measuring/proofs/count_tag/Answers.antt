@@ -2,10 +2,8 @@
 -- Assumes nothing.
 use mathlib.Core.Path.{◌∙◌, ◌≡◌, subst, sym}
 use Prim.Native.Nat.{ℕ}
-use native.Mathlib.Omega.{arith}
 use mathlib.Core.Bool.{Bool, false}
 use mathlib.Core.List.{List}
-use borrow.Author.Tests.{eqb-true}
 use Rattle.lent.specs.Outcome.{Outcome}
 use Rattle.samtags.specs.Reading.{nowhere}
 use Rattle.samtags.specs.Spots.{Group}
@@ -23,14 +21,6 @@ returns-then-not-closed c =
     λ (named : ℕ → Bool) (none : c.args.marked ≡ false → named ≡ nowhere).
     read_four c.args.has_ml named c.args.seq.now c.args.text.now c.args.ml.now (sym c.all_ascii-ascii.ensures ∙ c.if-not-ascii.false)
     (sym c.ends_in_semicolon-closed.ensures ∙ c.if-not-closed.true)
-
-pub count_groups-requires : goal.count_groups-requires
-count_groups-requires c = (
-  omega arith,
-  omega arith,
-  omega arith,
-  eqb-true _ 59 (sym c.ends_in_semicolon-closed.ensures ∙ c.if-not-closed.false),
-)
 
 pub returns : goal.returns
 returns c =

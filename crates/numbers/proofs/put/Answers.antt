@@ -1,4 +1,4 @@
--- `put` stores the byte if the place has room; past the room the row is unchanged.
+-- `put` stores the entry if the place has room; past the room the row is unchanged.
 -- Assumes nothing.
 use mathlib.Core.Path.{sym}
 use native.Mathlib.Omega.{arith}
@@ -6,4 +6,4 @@ use lib.Seq.{set_out}
 use Rattle.numbers.proofs.put.Goals as goal
 
 pub returns-else-at-out : goal.returns-else-at-out
-returns-else-at-out c = sym (set_out c.args.out.now c.args.at c.args.b (omega arith))
+returns-else-at-out g c = sym (set_out c.args.out.now c.args.at c.args.entry (omega arith))

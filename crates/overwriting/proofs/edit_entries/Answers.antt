@@ -1,3 +1,4 @@
+use Rattle.std.specs.Prelude.{Ok, Err}
 use mathlib.Core.Path.{◌∙◌, ◌≡◌, ap, refl, subst, sym}
 use Prim.Native.Nat.{◌+◌, ◌-◌, ◌<◌, ◌≤◌, ℕ}
 use native.Mathlib.Omega.{arith}
@@ -5,18 +6,17 @@ use mathlib.Core.List.{List, []}
 use lib.ListN.{drop, get_or, length, length-take, take}
 use Rattle.entries.proofs.PutLaws.{put_behind, put_few}
 use Rattle.changing.proofs.EntryLaws.{Went, reached_refused, reached_went}
-use Rattle.entries.specs.Answers.{reached_refusal, reached_says}
+use Rattle.entries.specs.Answers.{reached_says}
 use Rattle.entries.specs.declared.Pen.{Pen}
 use Rattle.changing.specs.Drafts.{draft, entry_put, with_passed}
 use Rattle.changing.specs.Windows.{denied_in, held_in, is_marked}
 use Rattle.drafting.proofs.DraftLaws.{put_end, put_one}
 use Rattle.drafting.specs.Walks.{EntriesEdited, pen_of, spots_put}
 use Rattle.drafting.specs.declared.Cursor.{Cursor}
-use Rattle.drafting.specs.declared.Edited.TheVariants.{To}
 use Rattle.overwriting.proofs.AheadLaws.{put_ahead}
 use Rattle.moving.proofs.RowLaws.{same_at, same_later}
 use Rattle.lent.proofs.Outcome.{on_done_refused}
-use Rattle.lent.specs.Outcome.{on_done, refused}
+use Rattle.lent.specs.Outcome.{on_done}
 use Rattle.samtags.proofs.Behind.{behind_start}
 use Rattle.samtags.specs.Decimal.{value}
 use Rattle.samtags.specs.Reading.{read_entry, read_spots}
@@ -27,6 +27,7 @@ use Rattle.places.proofs.WalkLaws.{tracked_few}
 use Rattle.fields.specs.Fields.{field_of}
 use Rattle.places.specs.Walk.{tracked_from}
 use Rattle.overwriting.proofs.edit_entries.Goals as goal
+use Rattle.lent.proofs.Outcome.{passed_on}
 use Rattle.overwriting.proofs.edit_entries.Invariants.{Walked, put_from}
 
 pub loop-text-init : goal.loop-text-init
@@ -47,20 +48,20 @@ loop-text-init c =
       refl,
     )
 
-pub read_entry-reached-requires : goal.read_entry-reached-requires
-read_entry-reached-requires c = (omega arith, omega arith, c.requires.seq_len_bound.3)
+pub read_entry-requires : goal.read_entry-requires
+read_entry-requires c = (omega arith, omega arith, c.requires.seq_len_bound.3)
 
-pub returns-in_default : goal.returns-in_default
+pub returns-in_err-place : goal.returns-in_err-place
 unfolding tracked tracked_from
-returns-in_default c =
+returns-in_err-place c =
     let field_there : c.next_field-field.result.now ≡ field_of (drop (c.loop-text.at + 1) c.args.text.now) = c.next_field-field.ensures ∙ ap field_of (same_later c.loop-text.text
     c.args.text.now c.loop-text.at (c.loop-text.at + 1) (omega arith)
     c.loop-text.invariant.8) in
     let comma_there : get_or c.args.text.now c.loop-text.at 0 ≡ 44 = sym (same_at c.loop-text.text c.args.text.now c.loop-text.at c.loop-text.at 0 (omega arith)
     c.loop-text.invariant.8) ∙ c.loop-text-test.true in
-    let read_there : reached_says c.read_entry-reached.result ≡ with_passed (held_in c.args.window.lo c.args.after.now c.args.kind.base) (value c.next_field-field.result.now) (tracked_from c.args.kind.base c.loop-text.from.0 c.args.seq.now) (read_entry c.args.kind.values (denied_in c.args.marks.now c.args.kind.may_drop) c.next_field-field.result.now (tracked_from c.args.kind.base c.loop-text.from.0 c.args.seq.now) (length c.args.ml.now - c.loop-text.used)) = (let places = tracked_from c.args.kind.base c.loop-text.from.0 c.args.seq.now in
-    subst (λ (n : ℕ). reached_says c.read_entry-reached.result ≡ with_passed (held_in c.args.window.lo c.args.after.now c.args.kind.base) (value c.next_field-field.result.now) places
-    (read_entry c.args.kind.values (denied_in c.args.marks.now c.args.kind.may_drop) c.next_field-field.result.now places (n - c.loop-text.used))) c.loop-text.invariant.11 c.read_entry-reached.ensures) in
+    let read_there : reached_says c.read_entry.result ≡ with_passed (held_in c.args.window.lo c.args.after.now c.args.kind.base) (value c.next_field-field.result.now) (tracked_from c.args.kind.base c.loop-text.from.0 c.args.seq.now) (read_entry c.args.kind.values (denied_in c.args.marks.now c.args.kind.may_drop) c.next_field-field.result.now (tracked_from c.args.kind.base c.loop-text.from.0 c.args.seq.now) (length c.args.ml.now - c.loop-text.used)) = (let places = tracked_from c.args.kind.base c.loop-text.from.0 c.args.seq.now in
+    subst (λ (n : ℕ). reached_says c.read_entry.result ≡ with_passed (held_in c.args.window.lo c.args.after.now c.args.kind.base) (value c.next_field-field.result.now) places
+    (read_entry c.args.kind.values (denied_in c.args.marks.now c.args.kind.may_drop) c.next_field-field.result.now places (n - c.loop-text.used))) c.loop-text.invariant.11 c.read_entry.ensures) in
     let held = held_in c.args.window.lo c.args.after.now c.args.kind.base in
     let denied = denied_in c.args.marks.now c.args.kind.may_drop in
     let places = tracked_from c.args.kind.base c.loop-text.from.0 c.args.seq.now in
@@ -69,14 +70,13 @@ returns-in_default c =
       c.loop-text.invariant.0,
       c.requires,
     ) in
-    on_done_refused _ _ _ (c.loop-text.invariant.7
+    rw (passed_on _ _ c.from_residual.ensures.1) (on_done_refused _ _ _ (c.loop-text.invariant.7
     ∙ ap (on_done (spots_put held (is_marked c.args.marks.now) (draft c.loop-text.text c.loop-text.pen.end c.loop-text.ml c.loop-text.pen.kept) c.loop-text.pen.gap))
     (turn_refused c.args.kind.values denied c.args.text.now c.loop-text.at low (comma_there) c.next_field-field.result.now
     (field_there) places c.args.ml.now c.loop-text.used
-    c.in_default.field-0
-    (reached_refused held denied c.args.kind.values c.next_field-field.result.now places (length c.args.ml.now - c.loop-text.used) c.in_default.field-0
-    (sym (ap reached_says c.in_default.is) ∙ read_there)))
-    ∙ ap refused (sym (c.refusal.ensures ∙ ap reached_refusal c.in_default.is)))
+    c.in_err-place.field-0.0
+    (reached_refused held denied c.args.kind.values c.next_field-field.result.now places (length c.args.ml.now - c.loop-text.used) c.in_err-place.field-0.0
+    (sym (ap reached_says c.in_err-place.was) ∙ read_there)))))
 
 pub past-waiting-requires : goal.past-waiting-requires
 past-waiting-requires c =
@@ -87,14 +87,14 @@ past-waiting-requires c =
     c.loop-text.invariant.8) in
     let comma_there : get_or c.args.text.now c.loop-text.at 0 ≡ 44 = sym (same_at c.loop-text.text c.args.text.now c.loop-text.at c.loop-text.at 0 (omega arith)
     c.loop-text.invariant.8) ∙ c.loop-text-test.true in
-    let read_there : reached_says c.read_entry-reached.result ≡ with_passed (held_in c.args.window.lo c.args.after.now c.args.kind.base) (value c.next_field-field.result.now) (tracked_from c.args.kind.base c.loop-text.from.0 c.args.seq.now) (read_entry c.args.kind.values (denied_in c.args.marks.now c.args.kind.may_drop) c.next_field-field.result.now (tracked_from c.args.kind.base c.loop-text.from.0 c.args.seq.now) (length c.args.ml.now - c.loop-text.used)) = (let places = tracked_from c.args.kind.base c.loop-text.from.0 c.args.seq.now in
-    subst (λ (n : ℕ). reached_says c.read_entry-reached.result ≡ with_passed (held_in c.args.window.lo c.args.after.now c.args.kind.base) (value c.next_field-field.result.now) places
-    (read_entry c.args.kind.values (denied_in c.args.marks.now c.args.kind.may_drop) c.next_field-field.result.now places (n - c.loop-text.used))) c.loop-text.invariant.11 c.read_entry-reached.ensures) in
-    let went : Went (held_in c.args.window.lo c.args.after.now c.args.kind.base) (denied_in c.args.marks.now c.args.kind.may_drop) c.args.kind.values c.next_field-field.result.now c.args.kind.base c.loop-text.from.0 c.args.seq.now (length c.args.ml.now - c.loop-text.used) c.in-On.place.0 c.in-On.passed.0 = reached_went (held_in c.args.window.lo c.args.after.now c.args.kind.base) (denied_in c.args.marks.now c.args.kind.may_drop) c.args.kind.values
+    let read_there : reached_says c.read_entry.result ≡ with_passed (held_in c.args.window.lo c.args.after.now c.args.kind.base) (value c.next_field-field.result.now) (tracked_from c.args.kind.base c.loop-text.from.0 c.args.seq.now) (read_entry c.args.kind.values (denied_in c.args.marks.now c.args.kind.may_drop) c.next_field-field.result.now (tracked_from c.args.kind.base c.loop-text.from.0 c.args.seq.now) (length c.args.ml.now - c.loop-text.used)) = (let places = tracked_from c.args.kind.base c.loop-text.from.0 c.args.seq.now in
+    subst (λ (n : ℕ). reached_says c.read_entry.result ≡ with_passed (held_in c.args.window.lo c.args.after.now c.args.kind.base) (value c.next_field-field.result.now) places
+    (read_entry c.args.kind.values (denied_in c.args.marks.now c.args.kind.may_drop) c.next_field-field.result.now places (n - c.loop-text.used))) c.loop-text.invariant.11 c.read_entry.ensures) in
+    let went : Went (held_in c.args.window.lo c.args.after.now c.args.kind.base) (denied_in c.args.marks.now c.args.kind.may_drop) c.args.kind.values c.next_field-field.result.now c.args.kind.base c.loop-text.from.0 c.args.seq.now (length c.args.ml.now - c.loop-text.used) c.in_ok-place.place.0 c.in_ok-place.passed.0 = reached_went (held_in c.args.window.lo c.args.after.now c.args.kind.base) (denied_in c.args.marks.now c.args.kind.may_drop) c.args.kind.values
     c.next_field-field.result.now
-    c.args.kind.base c.loop-text.from.0 c.args.seq.now (length c.args.ml.now - c.loop-text.used) c.in-On.place.0 c.in-On.passed.0
-    (sym (ap reached_says c.in-On.is) ∙ read_there) in
-    let bounds : (c.loop-text.used + c.args.kind.values ≤ length c.args.ml.now) × (length c.args.ml.now ≤ 65536) × (c.loop-text.at < length c.args.text.now) × (c.loop-text.at + 1 + length c.next_field-field.result.now < length c.args.text.now) × (length c.args.text.now ≤ 65536) × (c.loop-text.pen.end ≤ c.loop-text.at) × (c.loop-text.pen.kept ≤ c.loop-text.used) × (c.loop-text.pen.gap + c.in-On.passed.0 ≤ 16000) = (let w = went in
+    c.args.kind.base c.loop-text.from.0 c.args.seq.now (length c.args.ml.now - c.loop-text.used) c.in_ok-place.place.0 c.in_ok-place.passed.0
+    (sym (ap reached_says c.in_ok-place.was) ∙ read_there) in
+    let bounds : (c.loop-text.used + c.args.kind.values ≤ length c.args.ml.now) × (length c.args.ml.now ≤ 65536) × (c.loop-text.at < length c.args.text.now) × (c.loop-text.at + 1 + length c.next_field-field.result.now < length c.args.text.now) × (length c.args.text.now ≤ 65536) × (c.loop-text.pen.end ≤ c.loop-text.at) × (c.loop-text.pen.kept ≤ c.loop-text.used) × (c.loop-text.pen.gap + c.in_ok-place.passed.0 ≤ 16000) = (let w = went in
     let i = known in
     let low : c.loop-text.at < length c.args.text.now = omega (arith, i.0, c.requires) in
     let rest = turn_rest c.args.kind.values (denied_in c.args.marks.now c.args.kind.may_drop) c.args.text.now c.loop-text.at low (comma_there) c.next_field-field.result.now
@@ -119,14 +119,14 @@ put_entry-pen-requires c =
     c.loop-text.invariant.8) in
     let comma_there : get_or c.args.text.now c.loop-text.at 0 ≡ 44 = sym (same_at c.loop-text.text c.args.text.now c.loop-text.at c.loop-text.at 0 (omega arith)
     c.loop-text.invariant.8) ∙ c.loop-text-test.true in
-    let read_there : reached_says c.read_entry-reached.result ≡ with_passed (held_in c.args.window.lo c.args.after.now c.args.kind.base) (value c.next_field-field.result.now) (tracked_from c.args.kind.base c.loop-text.from.0 c.args.seq.now) (read_entry c.args.kind.values (denied_in c.args.marks.now c.args.kind.may_drop) c.next_field-field.result.now (tracked_from c.args.kind.base c.loop-text.from.0 c.args.seq.now) (length c.args.ml.now - c.loop-text.used)) = (let places = tracked_from c.args.kind.base c.loop-text.from.0 c.args.seq.now in
-    subst (λ (n : ℕ). reached_says c.read_entry-reached.result ≡ with_passed (held_in c.args.window.lo c.args.after.now c.args.kind.base) (value c.next_field-field.result.now) places
-    (read_entry c.args.kind.values (denied_in c.args.marks.now c.args.kind.may_drop) c.next_field-field.result.now places (n - c.loop-text.used))) c.loop-text.invariant.11 c.read_entry-reached.ensures) in
-    let went : Went (held_in c.args.window.lo c.args.after.now c.args.kind.base) (denied_in c.args.marks.now c.args.kind.may_drop) c.args.kind.values c.next_field-field.result.now c.args.kind.base c.loop-text.from.0 c.args.seq.now (length c.args.ml.now - c.loop-text.used) c.in-On.place.0 c.in-On.passed.0 = reached_went (held_in c.args.window.lo c.args.after.now c.args.kind.base) (denied_in c.args.marks.now c.args.kind.may_drop) c.args.kind.values
+    let read_there : reached_says c.read_entry.result ≡ with_passed (held_in c.args.window.lo c.args.after.now c.args.kind.base) (value c.next_field-field.result.now) (tracked_from c.args.kind.base c.loop-text.from.0 c.args.seq.now) (read_entry c.args.kind.values (denied_in c.args.marks.now c.args.kind.may_drop) c.next_field-field.result.now (tracked_from c.args.kind.base c.loop-text.from.0 c.args.seq.now) (length c.args.ml.now - c.loop-text.used)) = (let places = tracked_from c.args.kind.base c.loop-text.from.0 c.args.seq.now in
+    subst (λ (n : ℕ). reached_says c.read_entry.result ≡ with_passed (held_in c.args.window.lo c.args.after.now c.args.kind.base) (value c.next_field-field.result.now) places
+    (read_entry c.args.kind.values (denied_in c.args.marks.now c.args.kind.may_drop) c.next_field-field.result.now places (n - c.loop-text.used))) c.loop-text.invariant.11 c.read_entry.ensures) in
+    let went : Went (held_in c.args.window.lo c.args.after.now c.args.kind.base) (denied_in c.args.marks.now c.args.kind.may_drop) c.args.kind.values c.next_field-field.result.now c.args.kind.base c.loop-text.from.0 c.args.seq.now (length c.args.ml.now - c.loop-text.used) c.in_ok-place.place.0 c.in_ok-place.passed.0 = reached_went (held_in c.args.window.lo c.args.after.now c.args.kind.base) (denied_in c.args.marks.now c.args.kind.may_drop) c.args.kind.values
     c.next_field-field.result.now
-    c.args.kind.base c.loop-text.from.0 c.args.seq.now (length c.args.ml.now - c.loop-text.used) c.in-On.place.0 c.in-On.passed.0
-    (sym (ap reached_says c.in-On.is) ∙ read_there) in
-    let bounds : (c.loop-text.used + c.args.kind.values ≤ length c.args.ml.now) × (length c.args.ml.now ≤ 65536) × (c.loop-text.at < length c.args.text.now) × (c.loop-text.at + 1 + length c.next_field-field.result.now < length c.args.text.now) × (length c.args.text.now ≤ 65536) × (c.loop-text.pen.end ≤ c.loop-text.at) × (c.loop-text.pen.kept ≤ c.loop-text.used) × (c.loop-text.pen.gap + c.in-On.passed.0 ≤ 16000) = (let w = went in
+    c.args.kind.base c.loop-text.from.0 c.args.seq.now (length c.args.ml.now - c.loop-text.used) c.in_ok-place.place.0 c.in_ok-place.passed.0
+    (sym (ap reached_says c.in_ok-place.was) ∙ read_there) in
+    let bounds : (c.loop-text.used + c.args.kind.values ≤ length c.args.ml.now) × (length c.args.ml.now ≤ 65536) × (c.loop-text.at < length c.args.text.now) × (c.loop-text.at + 1 + length c.next_field-field.result.now < length c.args.text.now) × (length c.args.text.now ≤ 65536) × (c.loop-text.pen.end ≤ c.loop-text.at) × (c.loop-text.pen.kept ≤ c.loop-text.used) × (c.loop-text.pen.gap + c.in_ok-place.passed.0 ≤ 16000) = (let w = went in
     let i = known in
     let low : c.loop-text.at < length c.args.text.now = omega (arith, i.0, c.requires) in
     let rest = turn_rest c.args.kind.values (denied_in c.args.marks.now c.args.kind.may_drop) c.args.text.now c.loop-text.at low (comma_there) c.next_field-field.result.now
@@ -150,13 +150,13 @@ put_entry-pen-requires c =
 
 pub overflow_add-from : goal.overflow_add-from
 overflow_add-from c =
-    let read_there : reached_says c.read_entry-reached.result ≡ with_passed (held_in c.args.window.lo c.args.after.now c.args.kind.base) (value c.next_field-field.result.now) (tracked_from c.args.kind.base c.loop-text.from.0 c.args.seq.now) (read_entry c.args.kind.values (denied_in c.args.marks.now c.args.kind.may_drop) c.next_field-field.result.now (tracked_from c.args.kind.base c.loop-text.from.0 c.args.seq.now) (length c.args.ml.now - c.loop-text.used)) = (let places = tracked_from c.args.kind.base c.loop-text.from.0 c.args.seq.now in
-    subst (λ (n : ℕ). reached_says c.read_entry-reached.result ≡ with_passed (held_in c.args.window.lo c.args.after.now c.args.kind.base) (value c.next_field-field.result.now) places
-    (read_entry c.args.kind.values (denied_in c.args.marks.now c.args.kind.may_drop) c.next_field-field.result.now places (n - c.loop-text.used))) c.loop-text.invariant.11 c.read_entry-reached.ensures) in
-    let went : Went (held_in c.args.window.lo c.args.after.now c.args.kind.base) (denied_in c.args.marks.now c.args.kind.may_drop) c.args.kind.values c.next_field-field.result.now c.args.kind.base c.loop-text.from.0 c.args.seq.now (length c.args.ml.now - c.loop-text.used) c.in-On.place.0 c.in-On.passed.0 = reached_went (held_in c.args.window.lo c.args.after.now c.args.kind.base) (denied_in c.args.marks.now c.args.kind.may_drop) c.args.kind.values
+    let read_there : reached_says c.read_entry.result ≡ with_passed (held_in c.args.window.lo c.args.after.now c.args.kind.base) (value c.next_field-field.result.now) (tracked_from c.args.kind.base c.loop-text.from.0 c.args.seq.now) (read_entry c.args.kind.values (denied_in c.args.marks.now c.args.kind.may_drop) c.next_field-field.result.now (tracked_from c.args.kind.base c.loop-text.from.0 c.args.seq.now) (length c.args.ml.now - c.loop-text.used)) = (let places = tracked_from c.args.kind.base c.loop-text.from.0 c.args.seq.now in
+    subst (λ (n : ℕ). reached_says c.read_entry.result ≡ with_passed (held_in c.args.window.lo c.args.after.now c.args.kind.base) (value c.next_field-field.result.now) places
+    (read_entry c.args.kind.values (denied_in c.args.marks.now c.args.kind.may_drop) c.next_field-field.result.now places (n - c.loop-text.used))) c.loop-text.invariant.11 c.read_entry.ensures) in
+    let went : Went (held_in c.args.window.lo c.args.after.now c.args.kind.base) (denied_in c.args.marks.now c.args.kind.may_drop) c.args.kind.values c.next_field-field.result.now c.args.kind.base c.loop-text.from.0 c.args.seq.now (length c.args.ml.now - c.loop-text.used) c.in_ok-place.place.0 c.in_ok-place.passed.0 = reached_went (held_in c.args.window.lo c.args.after.now c.args.kind.base) (denied_in c.args.marks.now c.args.kind.may_drop) c.args.kind.values
     c.next_field-field.result.now
-    c.args.kind.base c.loop-text.from.0 c.args.seq.now (length c.args.ml.now - c.loop-text.used) c.in-On.place.0 c.in-On.passed.0
-    (sym (ap reached_says c.in-On.is) ∙ read_there) in
+    c.args.kind.base c.loop-text.from.0 c.args.seq.now (length c.args.ml.now - c.loop-text.used) c.in_ok-place.place.0 c.in_ok-place.passed.0
+    (sym (ap reached_says c.in_ok-place.was) ∙ read_there) in
     omega (arith, (went).inside, c.requires.seq_len_bound.0)
 
 pub overflow_add-used : goal.overflow_add-used
@@ -168,14 +168,14 @@ overflow_add-used c =
     c.loop-text.invariant.8) in
     let comma_there : get_or c.args.text.now c.loop-text.at 0 ≡ 44 = sym (same_at c.loop-text.text c.args.text.now c.loop-text.at c.loop-text.at 0 (omega arith)
     c.loop-text.invariant.8) ∙ c.loop-text-test.true in
-    let read_there : reached_says c.read_entry-reached.result ≡ with_passed (held_in c.args.window.lo c.args.after.now c.args.kind.base) (value c.next_field-field.result.now) (tracked_from c.args.kind.base c.loop-text.from.0 c.args.seq.now) (read_entry c.args.kind.values (denied_in c.args.marks.now c.args.kind.may_drop) c.next_field-field.result.now (tracked_from c.args.kind.base c.loop-text.from.0 c.args.seq.now) (length c.args.ml.now - c.loop-text.used)) = (let places = tracked_from c.args.kind.base c.loop-text.from.0 c.args.seq.now in
-    subst (λ (n : ℕ). reached_says c.read_entry-reached.result ≡ with_passed (held_in c.args.window.lo c.args.after.now c.args.kind.base) (value c.next_field-field.result.now) places
-    (read_entry c.args.kind.values (denied_in c.args.marks.now c.args.kind.may_drop) c.next_field-field.result.now places (n - c.loop-text.used))) c.loop-text.invariant.11 c.read_entry-reached.ensures) in
-    let went : Went (held_in c.args.window.lo c.args.after.now c.args.kind.base) (denied_in c.args.marks.now c.args.kind.may_drop) c.args.kind.values c.next_field-field.result.now c.args.kind.base c.loop-text.from.0 c.args.seq.now (length c.args.ml.now - c.loop-text.used) c.in-On.place.0 c.in-On.passed.0 = reached_went (held_in c.args.window.lo c.args.after.now c.args.kind.base) (denied_in c.args.marks.now c.args.kind.may_drop) c.args.kind.values
+    let read_there : reached_says c.read_entry.result ≡ with_passed (held_in c.args.window.lo c.args.after.now c.args.kind.base) (value c.next_field-field.result.now) (tracked_from c.args.kind.base c.loop-text.from.0 c.args.seq.now) (read_entry c.args.kind.values (denied_in c.args.marks.now c.args.kind.may_drop) c.next_field-field.result.now (tracked_from c.args.kind.base c.loop-text.from.0 c.args.seq.now) (length c.args.ml.now - c.loop-text.used)) = (let places = tracked_from c.args.kind.base c.loop-text.from.0 c.args.seq.now in
+    subst (λ (n : ℕ). reached_says c.read_entry.result ≡ with_passed (held_in c.args.window.lo c.args.after.now c.args.kind.base) (value c.next_field-field.result.now) places
+    (read_entry c.args.kind.values (denied_in c.args.marks.now c.args.kind.may_drop) c.next_field-field.result.now places (n - c.loop-text.used))) c.loop-text.invariant.11 c.read_entry.ensures) in
+    let went : Went (held_in c.args.window.lo c.args.after.now c.args.kind.base) (denied_in c.args.marks.now c.args.kind.may_drop) c.args.kind.values c.next_field-field.result.now c.args.kind.base c.loop-text.from.0 c.args.seq.now (length c.args.ml.now - c.loop-text.used) c.in_ok-place.place.0 c.in_ok-place.passed.0 = reached_went (held_in c.args.window.lo c.args.after.now c.args.kind.base) (denied_in c.args.marks.now c.args.kind.may_drop) c.args.kind.values
     c.next_field-field.result.now
-    c.args.kind.base c.loop-text.from.0 c.args.seq.now (length c.args.ml.now - c.loop-text.used) c.in-On.place.0 c.in-On.passed.0
-    (sym (ap reached_says c.in-On.is) ∙ read_there) in
-    let bounds : (c.loop-text.used + c.args.kind.values ≤ length c.args.ml.now) × (length c.args.ml.now ≤ 65536) × (c.loop-text.at < length c.args.text.now) × (c.loop-text.at + 1 + length c.next_field-field.result.now < length c.args.text.now) × (length c.args.text.now ≤ 65536) × (c.loop-text.pen.end ≤ c.loop-text.at) × (c.loop-text.pen.kept ≤ c.loop-text.used) × (c.loop-text.pen.gap + c.in-On.passed.0 ≤ 16000) = (let w = went in
+    c.args.kind.base c.loop-text.from.0 c.args.seq.now (length c.args.ml.now - c.loop-text.used) c.in_ok-place.place.0 c.in_ok-place.passed.0
+    (sym (ap reached_says c.in_ok-place.was) ∙ read_there) in
+    let bounds : (c.loop-text.used + c.args.kind.values ≤ length c.args.ml.now) × (length c.args.ml.now ≤ 65536) × (c.loop-text.at < length c.args.text.now) × (c.loop-text.at + 1 + length c.next_field-field.result.now < length c.args.text.now) × (length c.args.text.now ≤ 65536) × (c.loop-text.pen.end ≤ c.loop-text.at) × (c.loop-text.pen.kept ≤ c.loop-text.used) × (c.loop-text.pen.gap + c.in_ok-place.passed.0 ≤ 16000) = (let w = went in
     let i = known in
     let low : c.loop-text.at < length c.args.text.now = omega (arith, i.0, c.requires) in
     let rest = turn_rest c.args.kind.values (denied_in c.args.marks.now c.args.kind.may_drop) c.args.text.now c.loop-text.at low (comma_there) c.next_field-field.result.now
@@ -200,14 +200,14 @@ overflow_add-at-in-loop-text c =
     c.loop-text.invariant.8) in
     let comma_there : get_or c.args.text.now c.loop-text.at 0 ≡ 44 = sym (same_at c.loop-text.text c.args.text.now c.loop-text.at c.loop-text.at 0 (omega arith)
     c.loop-text.invariant.8) ∙ c.loop-text-test.true in
-    let read_there : reached_says c.read_entry-reached.result ≡ with_passed (held_in c.args.window.lo c.args.after.now c.args.kind.base) (value c.next_field-field.result.now) (tracked_from c.args.kind.base c.loop-text.from.0 c.args.seq.now) (read_entry c.args.kind.values (denied_in c.args.marks.now c.args.kind.may_drop) c.next_field-field.result.now (tracked_from c.args.kind.base c.loop-text.from.0 c.args.seq.now) (length c.args.ml.now - c.loop-text.used)) = (let places = tracked_from c.args.kind.base c.loop-text.from.0 c.args.seq.now in
-    subst (λ (n : ℕ). reached_says c.read_entry-reached.result ≡ with_passed (held_in c.args.window.lo c.args.after.now c.args.kind.base) (value c.next_field-field.result.now) places
-    (read_entry c.args.kind.values (denied_in c.args.marks.now c.args.kind.may_drop) c.next_field-field.result.now places (n - c.loop-text.used))) c.loop-text.invariant.11 c.read_entry-reached.ensures) in
-    let went : Went (held_in c.args.window.lo c.args.after.now c.args.kind.base) (denied_in c.args.marks.now c.args.kind.may_drop) c.args.kind.values c.next_field-field.result.now c.args.kind.base c.loop-text.from.0 c.args.seq.now (length c.args.ml.now - c.loop-text.used) c.in-On.place.0 c.in-On.passed.0 = reached_went (held_in c.args.window.lo c.args.after.now c.args.kind.base) (denied_in c.args.marks.now c.args.kind.may_drop) c.args.kind.values
+    let read_there : reached_says c.read_entry.result ≡ with_passed (held_in c.args.window.lo c.args.after.now c.args.kind.base) (value c.next_field-field.result.now) (tracked_from c.args.kind.base c.loop-text.from.0 c.args.seq.now) (read_entry c.args.kind.values (denied_in c.args.marks.now c.args.kind.may_drop) c.next_field-field.result.now (tracked_from c.args.kind.base c.loop-text.from.0 c.args.seq.now) (length c.args.ml.now - c.loop-text.used)) = (let places = tracked_from c.args.kind.base c.loop-text.from.0 c.args.seq.now in
+    subst (λ (n : ℕ). reached_says c.read_entry.result ≡ with_passed (held_in c.args.window.lo c.args.after.now c.args.kind.base) (value c.next_field-field.result.now) places
+    (read_entry c.args.kind.values (denied_in c.args.marks.now c.args.kind.may_drop) c.next_field-field.result.now places (n - c.loop-text.used))) c.loop-text.invariant.11 c.read_entry.ensures) in
+    let went : Went (held_in c.args.window.lo c.args.after.now c.args.kind.base) (denied_in c.args.marks.now c.args.kind.may_drop) c.args.kind.values c.next_field-field.result.now c.args.kind.base c.loop-text.from.0 c.args.seq.now (length c.args.ml.now - c.loop-text.used) c.in_ok-place.place.0 c.in_ok-place.passed.0 = reached_went (held_in c.args.window.lo c.args.after.now c.args.kind.base) (denied_in c.args.marks.now c.args.kind.may_drop) c.args.kind.values
     c.next_field-field.result.now
-    c.args.kind.base c.loop-text.from.0 c.args.seq.now (length c.args.ml.now - c.loop-text.used) c.in-On.place.0 c.in-On.passed.0
-    (sym (ap reached_says c.in-On.is) ∙ read_there) in
-    let bounds : (c.loop-text.used + c.args.kind.values ≤ length c.args.ml.now) × (length c.args.ml.now ≤ 65536) × (c.loop-text.at < length c.args.text.now) × (c.loop-text.at + 1 + length c.next_field-field.result.now < length c.args.text.now) × (length c.args.text.now ≤ 65536) × (c.loop-text.pen.end ≤ c.loop-text.at) × (c.loop-text.pen.kept ≤ c.loop-text.used) × (c.loop-text.pen.gap + c.in-On.passed.0 ≤ 16000) = (let w = went in
+    c.args.kind.base c.loop-text.from.0 c.args.seq.now (length c.args.ml.now - c.loop-text.used) c.in_ok-place.place.0 c.in_ok-place.passed.0
+    (sym (ap reached_says c.in_ok-place.was) ∙ read_there) in
+    let bounds : (c.loop-text.used + c.args.kind.values ≤ length c.args.ml.now) × (length c.args.ml.now ≤ 65536) × (c.loop-text.at < length c.args.text.now) × (c.loop-text.at + 1 + length c.next_field-field.result.now < length c.args.text.now) × (length c.args.text.now ≤ 65536) × (c.loop-text.pen.end ≤ c.loop-text.at) × (c.loop-text.pen.kept ≤ c.loop-text.used) × (c.loop-text.pen.gap + c.in_ok-place.passed.0 ≤ 16000) = (let w = went in
     let i = known in
     let low : c.loop-text.at < length c.args.text.now = omega (arith, i.0, c.requires) in
     let rest = turn_rest c.args.kind.values (denied_in c.args.marks.now c.args.kind.may_drop) c.args.text.now c.loop-text.at low (comma_there) c.next_field-field.result.now
@@ -232,14 +232,14 @@ overflow_add-at-in-loop-text-2 c =
     c.loop-text.invariant.8) in
     let comma_there : get_or c.args.text.now c.loop-text.at 0 ≡ 44 = sym (same_at c.loop-text.text c.args.text.now c.loop-text.at c.loop-text.at 0 (omega arith)
     c.loop-text.invariant.8) ∙ c.loop-text-test.true in
-    let read_there : reached_says c.read_entry-reached.result ≡ with_passed (held_in c.args.window.lo c.args.after.now c.args.kind.base) (value c.next_field-field.result.now) (tracked_from c.args.kind.base c.loop-text.from.0 c.args.seq.now) (read_entry c.args.kind.values (denied_in c.args.marks.now c.args.kind.may_drop) c.next_field-field.result.now (tracked_from c.args.kind.base c.loop-text.from.0 c.args.seq.now) (length c.args.ml.now - c.loop-text.used)) = (let places = tracked_from c.args.kind.base c.loop-text.from.0 c.args.seq.now in
-    subst (λ (n : ℕ). reached_says c.read_entry-reached.result ≡ with_passed (held_in c.args.window.lo c.args.after.now c.args.kind.base) (value c.next_field-field.result.now) places
-    (read_entry c.args.kind.values (denied_in c.args.marks.now c.args.kind.may_drop) c.next_field-field.result.now places (n - c.loop-text.used))) c.loop-text.invariant.11 c.read_entry-reached.ensures) in
-    let went : Went (held_in c.args.window.lo c.args.after.now c.args.kind.base) (denied_in c.args.marks.now c.args.kind.may_drop) c.args.kind.values c.next_field-field.result.now c.args.kind.base c.loop-text.from.0 c.args.seq.now (length c.args.ml.now - c.loop-text.used) c.in-On.place.0 c.in-On.passed.0 = reached_went (held_in c.args.window.lo c.args.after.now c.args.kind.base) (denied_in c.args.marks.now c.args.kind.may_drop) c.args.kind.values
+    let read_there : reached_says c.read_entry.result ≡ with_passed (held_in c.args.window.lo c.args.after.now c.args.kind.base) (value c.next_field-field.result.now) (tracked_from c.args.kind.base c.loop-text.from.0 c.args.seq.now) (read_entry c.args.kind.values (denied_in c.args.marks.now c.args.kind.may_drop) c.next_field-field.result.now (tracked_from c.args.kind.base c.loop-text.from.0 c.args.seq.now) (length c.args.ml.now - c.loop-text.used)) = (let places = tracked_from c.args.kind.base c.loop-text.from.0 c.args.seq.now in
+    subst (λ (n : ℕ). reached_says c.read_entry.result ≡ with_passed (held_in c.args.window.lo c.args.after.now c.args.kind.base) (value c.next_field-field.result.now) places
+    (read_entry c.args.kind.values (denied_in c.args.marks.now c.args.kind.may_drop) c.next_field-field.result.now places (n - c.loop-text.used))) c.loop-text.invariant.11 c.read_entry.ensures) in
+    let went : Went (held_in c.args.window.lo c.args.after.now c.args.kind.base) (denied_in c.args.marks.now c.args.kind.may_drop) c.args.kind.values c.next_field-field.result.now c.args.kind.base c.loop-text.from.0 c.args.seq.now (length c.args.ml.now - c.loop-text.used) c.in_ok-place.place.0 c.in_ok-place.passed.0 = reached_went (held_in c.args.window.lo c.args.after.now c.args.kind.base) (denied_in c.args.marks.now c.args.kind.may_drop) c.args.kind.values
     c.next_field-field.result.now
-    c.args.kind.base c.loop-text.from.0 c.args.seq.now (length c.args.ml.now - c.loop-text.used) c.in-On.place.0 c.in-On.passed.0
-    (sym (ap reached_says c.in-On.is) ∙ read_there) in
-    let bounds : (c.loop-text.used + c.args.kind.values ≤ length c.args.ml.now) × (length c.args.ml.now ≤ 65536) × (c.loop-text.at < length c.args.text.now) × (c.loop-text.at + 1 + length c.next_field-field.result.now < length c.args.text.now) × (length c.args.text.now ≤ 65536) × (c.loop-text.pen.end ≤ c.loop-text.at) × (c.loop-text.pen.kept ≤ c.loop-text.used) × (c.loop-text.pen.gap + c.in-On.passed.0 ≤ 16000) = (let w = went in
+    c.args.kind.base c.loop-text.from.0 c.args.seq.now (length c.args.ml.now - c.loop-text.used) c.in_ok-place.place.0 c.in_ok-place.passed.0
+    (sym (ap reached_says c.in_ok-place.was) ∙ read_there) in
+    let bounds : (c.loop-text.used + c.args.kind.values ≤ length c.args.ml.now) × (length c.args.ml.now ≤ 65536) × (c.loop-text.at < length c.args.text.now) × (c.loop-text.at + 1 + length c.next_field-field.result.now < length c.args.text.now) × (length c.args.text.now ≤ 65536) × (c.loop-text.pen.end ≤ c.loop-text.at) × (c.loop-text.pen.kept ≤ c.loop-text.used) × (c.loop-text.pen.gap + c.in_ok-place.passed.0 ≤ 16000) = (let w = went in
     let i = known in
     let low : c.loop-text.at < length c.args.text.now = omega (arith, i.0, c.requires) in
     let rest = turn_rest c.args.kind.values (denied_in c.args.marks.now c.args.kind.may_drop) c.args.text.now c.loop-text.at low (comma_there) c.next_field-field.result.now
@@ -264,14 +264,14 @@ loop-text-smaller c =
     c.loop-text.invariant.8) in
     let comma_there : get_or c.args.text.now c.loop-text.at 0 ≡ 44 = sym (same_at c.loop-text.text c.args.text.now c.loop-text.at c.loop-text.at 0 (omega arith)
     c.loop-text.invariant.8) ∙ c.loop-text-test.true in
-    let read_there : reached_says c.read_entry-reached.result ≡ with_passed (held_in c.args.window.lo c.args.after.now c.args.kind.base) (value c.next_field-field.result.now) (tracked_from c.args.kind.base c.loop-text.from.0 c.args.seq.now) (read_entry c.args.kind.values (denied_in c.args.marks.now c.args.kind.may_drop) c.next_field-field.result.now (tracked_from c.args.kind.base c.loop-text.from.0 c.args.seq.now) (length c.args.ml.now - c.loop-text.used)) = (let places = tracked_from c.args.kind.base c.loop-text.from.0 c.args.seq.now in
-    subst (λ (n : ℕ). reached_says c.read_entry-reached.result ≡ with_passed (held_in c.args.window.lo c.args.after.now c.args.kind.base) (value c.next_field-field.result.now) places
-    (read_entry c.args.kind.values (denied_in c.args.marks.now c.args.kind.may_drop) c.next_field-field.result.now places (n - c.loop-text.used))) c.loop-text.invariant.11 c.read_entry-reached.ensures) in
-    let went : Went (held_in c.args.window.lo c.args.after.now c.args.kind.base) (denied_in c.args.marks.now c.args.kind.may_drop) c.args.kind.values c.next_field-field.result.now c.args.kind.base c.loop-text.from.0 c.args.seq.now (length c.args.ml.now - c.loop-text.used) c.in-On.place.0 c.in-On.passed.0 = reached_went (held_in c.args.window.lo c.args.after.now c.args.kind.base) (denied_in c.args.marks.now c.args.kind.may_drop) c.args.kind.values
+    let read_there : reached_says c.read_entry.result ≡ with_passed (held_in c.args.window.lo c.args.after.now c.args.kind.base) (value c.next_field-field.result.now) (tracked_from c.args.kind.base c.loop-text.from.0 c.args.seq.now) (read_entry c.args.kind.values (denied_in c.args.marks.now c.args.kind.may_drop) c.next_field-field.result.now (tracked_from c.args.kind.base c.loop-text.from.0 c.args.seq.now) (length c.args.ml.now - c.loop-text.used)) = (let places = tracked_from c.args.kind.base c.loop-text.from.0 c.args.seq.now in
+    subst (λ (n : ℕ). reached_says c.read_entry.result ≡ with_passed (held_in c.args.window.lo c.args.after.now c.args.kind.base) (value c.next_field-field.result.now) places
+    (read_entry c.args.kind.values (denied_in c.args.marks.now c.args.kind.may_drop) c.next_field-field.result.now places (n - c.loop-text.used))) c.loop-text.invariant.11 c.read_entry.ensures) in
+    let went : Went (held_in c.args.window.lo c.args.after.now c.args.kind.base) (denied_in c.args.marks.now c.args.kind.may_drop) c.args.kind.values c.next_field-field.result.now c.args.kind.base c.loop-text.from.0 c.args.seq.now (length c.args.ml.now - c.loop-text.used) c.in_ok-place.place.0 c.in_ok-place.passed.0 = reached_went (held_in c.args.window.lo c.args.after.now c.args.kind.base) (denied_in c.args.marks.now c.args.kind.may_drop) c.args.kind.values
     c.next_field-field.result.now
-    c.args.kind.base c.loop-text.from.0 c.args.seq.now (length c.args.ml.now - c.loop-text.used) c.in-On.place.0 c.in-On.passed.0
-    (sym (ap reached_says c.in-On.is) ∙ read_there) in
-    let bounds : (c.loop-text.used + c.args.kind.values ≤ length c.args.ml.now) × (length c.args.ml.now ≤ 65536) × (c.loop-text.at < length c.args.text.now) × (c.loop-text.at + 1 + length c.next_field-field.result.now < length c.args.text.now) × (length c.args.text.now ≤ 65536) × (c.loop-text.pen.end ≤ c.loop-text.at) × (c.loop-text.pen.kept ≤ c.loop-text.used) × (c.loop-text.pen.gap + c.in-On.passed.0 ≤ 16000) = (let w = went in
+    c.args.kind.base c.loop-text.from.0 c.args.seq.now (length c.args.ml.now - c.loop-text.used) c.in_ok-place.place.0 c.in_ok-place.passed.0
+    (sym (ap reached_says c.in_ok-place.was) ∙ read_there) in
+    let bounds : (c.loop-text.used + c.args.kind.values ≤ length c.args.ml.now) × (length c.args.ml.now ≤ 65536) × (c.loop-text.at < length c.args.text.now) × (c.loop-text.at + 1 + length c.next_field-field.result.now < length c.args.text.now) × (length c.args.text.now ≤ 65536) × (c.loop-text.pen.end ≤ c.loop-text.at) × (c.loop-text.pen.kept ≤ c.loop-text.used) × (c.loop-text.pen.gap + c.in_ok-place.passed.0 ≤ 16000) = (let w = went in
     let i = known in
     let low : c.loop-text.at < length c.args.text.now = omega (arith, i.0, c.requires) in
     let rest = turn_rest c.args.kind.values (denied_in c.args.marks.now c.args.kind.may_drop) c.args.text.now c.loop-text.at low (comma_there) c.next_field-field.result.now
@@ -296,14 +296,14 @@ loop-text-preserved c =
     c.loop-text.invariant.8) in
     let comma_there : get_or c.args.text.now c.loop-text.at 0 ≡ 44 = sym (same_at c.loop-text.text c.args.text.now c.loop-text.at c.loop-text.at 0 (omega arith)
     c.loop-text.invariant.8) ∙ c.loop-text-test.true in
-    let read_there : reached_says c.read_entry-reached.result ≡ with_passed (held_in c.args.window.lo c.args.after.now c.args.kind.base) (value c.next_field-field.result.now) (tracked_from c.args.kind.base c.loop-text.from.0 c.args.seq.now) (read_entry c.args.kind.values (denied_in c.args.marks.now c.args.kind.may_drop) c.next_field-field.result.now (tracked_from c.args.kind.base c.loop-text.from.0 c.args.seq.now) (length c.args.ml.now - c.loop-text.used)) = (let places = tracked_from c.args.kind.base c.loop-text.from.0 c.args.seq.now in
-    subst (λ (n : ℕ). reached_says c.read_entry-reached.result ≡ with_passed (held_in c.args.window.lo c.args.after.now c.args.kind.base) (value c.next_field-field.result.now) places
-    (read_entry c.args.kind.values (denied_in c.args.marks.now c.args.kind.may_drop) c.next_field-field.result.now places (n - c.loop-text.used))) c.loop-text.invariant.11 c.read_entry-reached.ensures) in
-    let went : Went (held_in c.args.window.lo c.args.after.now c.args.kind.base) (denied_in c.args.marks.now c.args.kind.may_drop) c.args.kind.values c.next_field-field.result.now c.args.kind.base c.loop-text.from.0 c.args.seq.now (length c.args.ml.now - c.loop-text.used) c.in-On.place.0 c.in-On.passed.0 = reached_went (held_in c.args.window.lo c.args.after.now c.args.kind.base) (denied_in c.args.marks.now c.args.kind.may_drop) c.args.kind.values
+    let read_there : reached_says c.read_entry.result ≡ with_passed (held_in c.args.window.lo c.args.after.now c.args.kind.base) (value c.next_field-field.result.now) (tracked_from c.args.kind.base c.loop-text.from.0 c.args.seq.now) (read_entry c.args.kind.values (denied_in c.args.marks.now c.args.kind.may_drop) c.next_field-field.result.now (tracked_from c.args.kind.base c.loop-text.from.0 c.args.seq.now) (length c.args.ml.now - c.loop-text.used)) = (let places = tracked_from c.args.kind.base c.loop-text.from.0 c.args.seq.now in
+    subst (λ (n : ℕ). reached_says c.read_entry.result ≡ with_passed (held_in c.args.window.lo c.args.after.now c.args.kind.base) (value c.next_field-field.result.now) places
+    (read_entry c.args.kind.values (denied_in c.args.marks.now c.args.kind.may_drop) c.next_field-field.result.now places (n - c.loop-text.used))) c.loop-text.invariant.11 c.read_entry.ensures) in
+    let went : Went (held_in c.args.window.lo c.args.after.now c.args.kind.base) (denied_in c.args.marks.now c.args.kind.may_drop) c.args.kind.values c.next_field-field.result.now c.args.kind.base c.loop-text.from.0 c.args.seq.now (length c.args.ml.now - c.loop-text.used) c.in_ok-place.place.0 c.in_ok-place.passed.0 = reached_went (held_in c.args.window.lo c.args.after.now c.args.kind.base) (denied_in c.args.marks.now c.args.kind.may_drop) c.args.kind.values
     c.next_field-field.result.now
-    c.args.kind.base c.loop-text.from.0 c.args.seq.now (length c.args.ml.now - c.loop-text.used) c.in-On.place.0 c.in-On.passed.0
-    (sym (ap reached_says c.in-On.is) ∙ read_there) in
-    let bounds : (c.loop-text.used + c.args.kind.values ≤ length c.args.ml.now) × (length c.args.ml.now ≤ 65536) × (c.loop-text.at < length c.args.text.now) × (c.loop-text.at + 1 + length c.next_field-field.result.now < length c.args.text.now) × (length c.args.text.now ≤ 65536) × (c.loop-text.pen.end ≤ c.loop-text.at) × (c.loop-text.pen.kept ≤ c.loop-text.used) × (c.loop-text.pen.gap + c.in-On.passed.0 ≤ 16000) = (let w = went in
+    c.args.kind.base c.loop-text.from.0 c.args.seq.now (length c.args.ml.now - c.loop-text.used) c.in_ok-place.place.0 c.in_ok-place.passed.0
+    (sym (ap reached_says c.in_ok-place.was) ∙ read_there) in
+    let bounds : (c.loop-text.used + c.args.kind.values ≤ length c.args.ml.now) × (length c.args.ml.now ≤ 65536) × (c.loop-text.at < length c.args.text.now) × (c.loop-text.at + 1 + length c.next_field-field.result.now < length c.args.text.now) × (length c.args.text.now ≤ 65536) × (c.loop-text.pen.end ≤ c.loop-text.at) × (c.loop-text.pen.kept ≤ c.loop-text.used) × (c.loop-text.pen.gap + c.in_ok-place.passed.0 ≤ 16000) = (let w = went in
     let i = known in
     let low : c.loop-text.at < length c.args.text.now = omega (arith, i.0, c.requires) in
     let rest = turn_rest c.args.kind.values (denied_in c.args.marks.now c.args.kind.may_drop) c.args.text.now c.loop-text.at low (comma_there) c.next_field-field.result.now
@@ -320,8 +320,8 @@ loop-text-preserved c =
     let starts = c.pen-pen.ensures in
     let w = went in
     let b = bounds in
-    let p = c.in-On.place.0 in
-    let n = c.in-On.passed.0 in
+    let p = c.in_ok-place.place.0 in
+    let n = c.in_ok-place.passed.0 in
     let t = c.args.text.now in
     let held = held_in c.args.window.lo c.args.after.now c.args.kind.base in
     let named = is_marked c.args.marks.now in
@@ -395,7 +395,7 @@ returns c =
     let w = draft c.loop-text.text c.loop-text.pen.end c.loop-text.ml c.loop-text.pen.kept in
     subst (λ (d : Cursor). EntriesEdited held (is_marked c.args.marks.now) t c.args.ml.now c.args.start
     (read_spots c.args.kind.values denied (led_by 44 (up_to 59 (drop c.args.start.at t))) (tracked c.args.kind.base c.args.seq.now) (drop c.args.start.used c.args.ml.now))
-    t c.args.ml.now (To d) c.loop-text.text c.loop-text.ml) (sym c.behind.ensures) (
+    t c.args.ml.now (Ok d) c.loop-text.text c.loop-text.ml) (sym c.behind.ensures) (
       omega (arith, i.0, rest_semicolon t c.loop-text.at low semi),
       i.3,
       i.4.0,

@@ -11,7 +11,6 @@ use Rattle.changing.specs.Windows.{denied_in, held_in, is_marked, window_edit}
 use Rattle.drafting.proofs.DraftLaws.{group_put_lem, group_refused}
 use Rattle.drafting.specs.Walks.{EntriesEdited, GroupEdited}
 use Rattle.drafting.specs.declared.Cursor.{Cursor}
-use Rattle.drafting.specs.declared.Edited.{Edited}
 use Rattle.overwriting.proofs.AheadLaws.{entries_there}
 use Rattle.moving.proofs.RowLaws.{drop_stored}
 use Rattle.lent.specs.Outcome.{Outcome}
@@ -21,6 +20,7 @@ use Rattle.samtags.specs.Text.{led_by, up_to}
 use Rattle.fields.proofs.FieldLaws.{field_part}
 use Rattle.places.proofs.TextLaws.{field_from, group_short, rest_from}
 use Rattle.fields.specs.Fields.{field_of}
+use Rattle.lent.proofs.Outcome.{passed_on}
 use Rattle.overwriting.proofs.edit_group.Goals as goal
 
 pub returns-then-width-lt2 : goal.returns-then-width-lt2
@@ -39,8 +39,8 @@ move_left-requires c =
       ),
     )
 
-pub edit_entries-edited-requires : goal.edit_entries-edited-requires
-edit_entries-edited-requires c =
+pub edit_entries-requires : goal.edit_entries-requires
+edit_entries-requires c =
     let ends_together : let n = length c.next_field-header.result.now in c.args.at + n + length (up_to 59 (drop (c.args.at + n) c.args.text.now)) ≡ c.args.at + length (up_to 59 (drop c.args.at c.args.text.now)) = omega (arith, rest_from c.args.text.now c.args.at (length c.next_field-header.result.now) (ap length (sym c.next_field-header.ensures))) in
     let header_moved : c.move_left.new.row ≡ sets c.args.text.now 0 c.next_field-header.result.now = subst (λ (h : List ℕ). c.move_left.new.row ≡ sets c.args.text.now 0 h)
     (field_part (drop c.args.at c.args.text.now) (length c.next_field-header.result.now) (ap length (sym c.next_field-header.ensures)) ∙ sym c.next_field-header.ensures) c.move_left.ensures in
@@ -54,8 +54,8 @@ edit_entries-edited-requires c =
     ap (λ (d : List ℕ). length (field_of d)) stand
     ∙ field_from c.args.text.now c.args.at n (ap length (sym c.next_field-header.ensures)) in record { seq_len_bound = (c.requires.seq_len_bound.0, omega (arith, same, c.requires), c.requires.seq_len_bound.2, c.requires.seq_len_bound.3); text_in_bounds = close; text_len = field; used_in_bounds = (c.requires.used_in_bounds, omega arith, omega arith) }
 
-pub returns-in_default : goal.returns-in_default
-returns-in_default c =
+pub returns-in_err-stop : goal.returns-in_err-stop
+returns-in_err-stop c =
     let header_moved : c.move_left.new.row ≡ sets c.args.text.now 0 c.next_field-header.result.now = subst (λ (h : List ℕ). c.move_left.new.row ≡ sets c.args.text.now 0 h)
     (field_part (drop c.args.at c.args.text.now) (length c.next_field-header.result.now) (ap length (sym c.next_field-header.ensures)) ∙ sym c.next_field-header.ensures) c.move_left.ensures in
     let entries_stand : let e = c.args.at + length c.next_field-header.result.now in drop e c.move_left.new.row ≡ drop e c.args.text.now = ap (drop (c.args.at + length c.next_field-header.result.now)) (header_moved) ∙ drop_stored c.args.text.now 0 c.next_field-header.result.now (c.args.at + length c.next_field-header.result.now) (omega arith) in
@@ -64,25 +64,25 @@ returns-in_default c =
     let spots_at : List ℕ → Outcome (List Spot × List ℕ) = λ text. read_spots c.kind_of-kind.result.values (denied_in c.args.marks.now
     c.kind_of-kind.result.may_drop) (led_by 44 (up_to 59 text))
     (tracked c.kind_of-kind.result.base c.args.seq.now) (drop c.args.used c.args.ml.now) in
-    let entries : (r : Edited) → c.edit_entries-edited.result ≡ r → EntriesEdited (held_in c.args.window.lo c.args.after.now c.kind_of-kind.result.base) (is_marked c.args.marks.now) c.args.text.now c.args.ml.now (entries_at) (spots_at (drop (entries_at).at c.args.text.now)) c.move_left.new.row c.args.ml.now r c.edit_entries-edited.new.text c.edit_entries-edited.new.ml = λ r e. (let held = held_in c.args.window.lo c.args.after.now c.kind_of-kind.result.base in
+    let entries : (r : Outcome Cursor) → c.edit_entries.result ≡ r → EntriesEdited (held_in c.args.window.lo c.args.after.now c.kind_of-kind.result.base) (is_marked c.args.marks.now) c.args.text.now c.args.ml.now (entries_at) (spots_at (drop (entries_at).at c.args.text.now)) c.move_left.new.row c.args.ml.now r c.edit_entries.new.text c.edit_entries.new.ml = λ r e. (let held = held_in c.args.window.lo c.args.after.now c.kind_of-kind.result.base in
     let named = is_marked c.args.marks.now in
     let t = c.args.text.now in
     let row = c.move_left.new.row in
-    let says : List ℕ → Edited → Type 0 = λ d x.
-    EntriesEdited held named row c.args.ml.now (entries_at) (spots_at d) row c.args.ml.now x c.edit_entries-edited.new.text c.edit_entries-edited.new.ml in
+    let says : List ℕ → Outcome Cursor → Type 0 = λ d x.
+    EntriesEdited held named row c.args.ml.now (entries_at) (spots_at d) row c.args.ml.now x c.edit_entries.new.text c.edit_entries.new.ml in
     entries_there held named row t c.args.ml.now (entries_at) (entries_stand) (spots_at (drop (entries_at).at t))
-    row c.args.ml.now r c.edit_entries-edited.new.text c.edit_entries-edited.new.ml
+    row c.args.ml.now r c.edit_entries.new.text c.edit_entries.new.ml
     (subst (says (drop (entries_at).at t)) e
-    (subst (λ (d : List ℕ). says d c.edit_entries-edited.result) (entries_stand) c.edit_entries-edited.ensures))) in
-    subst (λ (x : Edited). GroupEdited (window_edit c.args.window.lo c.args.after.now c.args.marks.now) c.args.text.now c.args.ml.now c.args.at c.args.used
+    (subst (λ (d : List ℕ). says d c.edit_entries.result) (entries_stand) c.edit_entries.ensures))) in
+    subst (λ (x : Outcome Cursor). GroupEdited (window_edit c.args.window.lo c.args.after.now c.args.marks.now) c.args.text.now c.args.ml.now c.args.at c.args.used
     (read_group c.args.has_ml (is_marked c.args.marks.now) c.args.seq.now (up_to 59 (drop c.args.at c.args.text.now)) (drop c.args.used c.args.ml.now))
-    c.args.text.now c.args.ml.now x c.edit_entries-edited.new.text c.edit_entries-edited.new.ml) (sym c.in_default.is)
+    c.args.text.now c.args.ml.now x c.edit_entries.new.text c.edit_entries.new.ml) (sym (passed_on _ _ c.from_residual.ensures.1))
     (group_refused c.args.window.lo c.args.after.now c.args.marks.now c.args.has_ml c.args.seq.now c.args.text.now c.args.at c.next_field-header.result.now c.next_field-header.ensures
     (drop c.args.used c.args.ml.now) c.if-width-lt2.false _ _ _
     c.kind_of-kind.ensures.1
     c.kind_of-kind.ensures.0
     c.kind_of-kind.ensures.2
-    c.in_default.field-0 (entries _ c.in_default.is))
+    c.in_err-stop.field-0.0 (entries _ c.in_err-stop.was))
 
 pub bounds-text-last : goal.bounds-text-last
 bounds-text-last c =
@@ -95,19 +95,19 @@ bounds-text-last c =
     let spots_at : List ℕ → Outcome (List Spot × List ℕ) = λ text. read_spots c.kind_of-kind.result.values (denied_in c.args.marks.now
     c.kind_of-kind.result.may_drop) (led_by 44 (up_to 59 text))
     (tracked c.kind_of-kind.result.base c.args.seq.now) (drop c.args.used c.args.ml.now) in
-    let entries : (r : Edited) → c.edit_entries-edited.result ≡ r → EntriesEdited (held_in c.args.window.lo c.args.after.now c.kind_of-kind.result.base) (is_marked c.args.marks.now) c.args.text.now c.args.ml.now (entries_at) (spots_at (drop (entries_at).at c.args.text.now)) c.move_left.new.row c.args.ml.now r c.edit_entries-edited.new.text c.edit_entries-edited.new.ml = λ r e. (let held = held_in c.args.window.lo c.args.after.now c.kind_of-kind.result.base in
+    let entries : (r : Outcome Cursor) → c.edit_entries.result ≡ r → EntriesEdited (held_in c.args.window.lo c.args.after.now c.kind_of-kind.result.base) (is_marked c.args.marks.now) c.args.text.now c.args.ml.now (entries_at) (spots_at (drop (entries_at).at c.args.text.now)) c.move_left.new.row c.args.ml.now r c.edit_entries.new.text c.edit_entries.new.ml = λ r e. (let held = held_in c.args.window.lo c.args.after.now c.kind_of-kind.result.base in
     let named = is_marked c.args.marks.now in
     let t = c.args.text.now in
     let row = c.move_left.new.row in
-    let says : List ℕ → Edited → Type 0 = λ d x.
-    EntriesEdited held named row c.args.ml.now (entries_at) (spots_at d) row c.args.ml.now x c.edit_entries-edited.new.text c.edit_entries-edited.new.ml in
+    let says : List ℕ → Outcome Cursor → Type 0 = λ d x.
+    EntriesEdited held named row c.args.ml.now (entries_at) (spots_at d) row c.args.ml.now x c.edit_entries.new.text c.edit_entries.new.ml in
     entries_there held named row t c.args.ml.now (entries_at) (entries_stand) (spots_at (drop (entries_at).at t))
-    row c.args.ml.now r c.edit_entries-edited.new.text c.edit_entries-edited.new.ml
+    row c.args.ml.now r c.edit_entries.new.text c.edit_entries.new.ml
     (subst (says (drop (entries_at).at t)) e
-    (subst (λ (d : List ℕ). says d c.edit_entries-edited.result) (entries_stand) c.edit_entries-edited.ensures))) in
-    let stop_inside : (c.in-To.stop.at < length c.args.text.now) × (c.in-To.stop.end ≤ c.in-To.stop.at) = (let x = entries _ c.in-To.is in
+    (subst (λ (d : List ℕ). says d c.edit_entries.result) (entries_stand) c.edit_entries.ensures))) in
+    let stop_inside : (c.in_ok-stop.stop.at < length c.args.text.now) × (c.in_ok-stop.stop.end ≤ c.in_ok-stop.stop.at) = (let x = entries _ c.in_ok-stop.was in
     (omega (arith, x.0, ends_together, c.requires), omega (arith, x.2))) in
-    let row_length : length c.edit_entries-edited.new.text ≡ length c.args.text.now = c.edit_entries-edited.auto.text ∙ c.move_left.auto.row in
+    let row_length : length c.edit_entries.new.text ≡ length c.args.text.now = c.edit_entries.auto.text ∙ c.move_left.auto.row in
     omega (arith, stop_inside, row_length)
 
 pub overflow_add-result : goal.overflow_add-result
@@ -121,17 +121,17 @@ overflow_add-result c =
     let spots_at : List ℕ → Outcome (List Spot × List ℕ) = λ text. read_spots c.kind_of-kind.result.values (denied_in c.args.marks.now
     c.kind_of-kind.result.may_drop) (led_by 44 (up_to 59 text))
     (tracked c.kind_of-kind.result.base c.args.seq.now) (drop c.args.used c.args.ml.now) in
-    let entries : (r : Edited) → c.edit_entries-edited.result ≡ r → EntriesEdited (held_in c.args.window.lo c.args.after.now c.kind_of-kind.result.base) (is_marked c.args.marks.now) c.args.text.now c.args.ml.now (entries_at) (spots_at (drop (entries_at).at c.args.text.now)) c.move_left.new.row c.args.ml.now r c.edit_entries-edited.new.text c.edit_entries-edited.new.ml = λ r e. (let held = held_in c.args.window.lo c.args.after.now c.kind_of-kind.result.base in
+    let entries : (r : Outcome Cursor) → c.edit_entries.result ≡ r → EntriesEdited (held_in c.args.window.lo c.args.after.now c.kind_of-kind.result.base) (is_marked c.args.marks.now) c.args.text.now c.args.ml.now (entries_at) (spots_at (drop (entries_at).at c.args.text.now)) c.move_left.new.row c.args.ml.now r c.edit_entries.new.text c.edit_entries.new.ml = λ r e. (let held = held_in c.args.window.lo c.args.after.now c.kind_of-kind.result.base in
     let named = is_marked c.args.marks.now in
     let t = c.args.text.now in
     let row = c.move_left.new.row in
-    let says : List ℕ → Edited → Type 0 = λ d x.
-    EntriesEdited held named row c.args.ml.now (entries_at) (spots_at d) row c.args.ml.now x c.edit_entries-edited.new.text c.edit_entries-edited.new.ml in
+    let says : List ℕ → Outcome Cursor → Type 0 = λ d x.
+    EntriesEdited held named row c.args.ml.now (entries_at) (spots_at d) row c.args.ml.now x c.edit_entries.new.text c.edit_entries.new.ml in
     entries_there held named row t c.args.ml.now (entries_at) (entries_stand) (spots_at (drop (entries_at).at t))
-    row c.args.ml.now r c.edit_entries-edited.new.text c.edit_entries-edited.new.ml
+    row c.args.ml.now r c.edit_entries.new.text c.edit_entries.new.ml
     (subst (says (drop (entries_at).at t)) e
-    (subst (λ (d : List ℕ). says d c.edit_entries-edited.result) (entries_stand) c.edit_entries-edited.ensures))) in
-    let stop_inside : (c.in-To.stop.at < length c.args.text.now) × (c.in-To.stop.end ≤ c.in-To.stop.at) = (let x = entries _ c.in-To.is in
+    (subst (λ (d : List ℕ). says d c.edit_entries.result) (entries_stand) c.edit_entries.ensures))) in
+    let stop_inside : (c.in_ok-stop.stop.at < length c.args.text.now) × (c.in_ok-stop.stop.end ≤ c.in_ok-stop.stop.at) = (let x = entries _ c.in_ok-stop.was in
     (omega (arith, x.0, ends_together, c.requires), omega (arith, x.2))) in
     omega (
       arith,
@@ -150,17 +150,17 @@ overflow_add-result-2 c =
     let spots_at : List ℕ → Outcome (List Spot × List ℕ) = λ text. read_spots c.kind_of-kind.result.values (denied_in c.args.marks.now
     c.kind_of-kind.result.may_drop) (led_by 44 (up_to 59 text))
     (tracked c.kind_of-kind.result.base c.args.seq.now) (drop c.args.used c.args.ml.now) in
-    let entries : (r : Edited) → c.edit_entries-edited.result ≡ r → EntriesEdited (held_in c.args.window.lo c.args.after.now c.kind_of-kind.result.base) (is_marked c.args.marks.now) c.args.text.now c.args.ml.now (entries_at) (spots_at (drop (entries_at).at c.args.text.now)) c.move_left.new.row c.args.ml.now r c.edit_entries-edited.new.text c.edit_entries-edited.new.ml = λ r e. (let held = held_in c.args.window.lo c.args.after.now c.kind_of-kind.result.base in
+    let entries : (r : Outcome Cursor) → c.edit_entries.result ≡ r → EntriesEdited (held_in c.args.window.lo c.args.after.now c.kind_of-kind.result.base) (is_marked c.args.marks.now) c.args.text.now c.args.ml.now (entries_at) (spots_at (drop (entries_at).at c.args.text.now)) c.move_left.new.row c.args.ml.now r c.edit_entries.new.text c.edit_entries.new.ml = λ r e. (let held = held_in c.args.window.lo c.args.after.now c.kind_of-kind.result.base in
     let named = is_marked c.args.marks.now in
     let t = c.args.text.now in
     let row = c.move_left.new.row in
-    let says : List ℕ → Edited → Type 0 = λ d x.
-    EntriesEdited held named row c.args.ml.now (entries_at) (spots_at d) row c.args.ml.now x c.edit_entries-edited.new.text c.edit_entries-edited.new.ml in
+    let says : List ℕ → Outcome Cursor → Type 0 = λ d x.
+    EntriesEdited held named row c.args.ml.now (entries_at) (spots_at d) row c.args.ml.now x c.edit_entries.new.text c.edit_entries.new.ml in
     entries_there held named row t c.args.ml.now (entries_at) (entries_stand) (spots_at (drop (entries_at).at t))
-    row c.args.ml.now r c.edit_entries-edited.new.text c.edit_entries-edited.new.ml
+    row c.args.ml.now r c.edit_entries.new.text c.edit_entries.new.ml
     (subst (says (drop (entries_at).at t)) e
-    (subst (λ (d : List ℕ). says d c.edit_entries-edited.result) (entries_stand) c.edit_entries-edited.ensures))) in
-    let stop_inside : (c.in-To.stop.at < length c.args.text.now) × (c.in-To.stop.end ≤ c.in-To.stop.at) = (let x = entries _ c.in-To.is in
+    (subst (λ (d : List ℕ). says d c.edit_entries.result) (entries_stand) c.edit_entries.ensures))) in
+    let stop_inside : (c.in_ok-stop.stop.at < length c.args.text.now) × (c.in_ok-stop.stop.end ≤ c.in_ok-stop.stop.at) = (let x = entries _ c.in_ok-stop.was in
     (omega (arith, x.0, ends_together, c.requires), omega (arith, x.2))) in
     omega (
       arith,
@@ -170,8 +170,8 @@ overflow_add-result-2 c =
 
 pub shape_of-text : goal.shape_of-text
 shape_of-text c =
-    let row_length : length c.edit_entries-edited.new.text ≡ length c.args.text.now = c.edit_entries-edited.auto.text ∙ c.move_left.auto.row in
-    length-set c.edit_entries-edited.new.text c.in-To.stop.end 59 ∙ row_length
+    let row_length : length c.edit_entries.new.text ≡ length c.args.text.now = c.edit_entries.auto.text ∙ c.move_left.auto.row in
+    length-set c.edit_entries.new.text c.in_ok-stop.stop.end 59 ∙ row_length
 
 pub returns : goal.returns
 returns c =
@@ -184,17 +184,17 @@ returns c =
     let spots_at : List ℕ → Outcome (List Spot × List ℕ) = λ text. read_spots c.kind_of-kind.result.values (denied_in c.args.marks.now
     c.kind_of-kind.result.may_drop) (led_by 44 (up_to 59 text))
     (tracked c.kind_of-kind.result.base c.args.seq.now) (drop c.args.used c.args.ml.now) in
-    let entries : (r : Edited) → c.edit_entries-edited.result ≡ r → EntriesEdited (held_in c.args.window.lo c.args.after.now c.kind_of-kind.result.base) (is_marked c.args.marks.now) c.args.text.now c.args.ml.now (entries_at) (spots_at (drop (entries_at).at c.args.text.now)) c.move_left.new.row c.args.ml.now r c.edit_entries-edited.new.text c.edit_entries-edited.new.ml = λ r e. (let held = held_in c.args.window.lo c.args.after.now c.kind_of-kind.result.base in
+    let entries : (r : Outcome Cursor) → c.edit_entries.result ≡ r → EntriesEdited (held_in c.args.window.lo c.args.after.now c.kind_of-kind.result.base) (is_marked c.args.marks.now) c.args.text.now c.args.ml.now (entries_at) (spots_at (drop (entries_at).at c.args.text.now)) c.move_left.new.row c.args.ml.now r c.edit_entries.new.text c.edit_entries.new.ml = λ r e. (let held = held_in c.args.window.lo c.args.after.now c.kind_of-kind.result.base in
     let named = is_marked c.args.marks.now in
     let t = c.args.text.now in
     let row = c.move_left.new.row in
-    let says : List ℕ → Edited → Type 0 = λ d x.
-    EntriesEdited held named row c.args.ml.now (entries_at) (spots_at d) row c.args.ml.now x c.edit_entries-edited.new.text c.edit_entries-edited.new.ml in
+    let says : List ℕ → Outcome Cursor → Type 0 = λ d x.
+    EntriesEdited held named row c.args.ml.now (entries_at) (spots_at d) row c.args.ml.now x c.edit_entries.new.text c.edit_entries.new.ml in
     entries_there held named row t c.args.ml.now (entries_at) (entries_stand) (spots_at (drop (entries_at).at t))
-    row c.args.ml.now r c.edit_entries-edited.new.text c.edit_entries-edited.new.ml
+    row c.args.ml.now r c.edit_entries.new.text c.edit_entries.new.ml
     (subst (says (drop (entries_at).at t)) e
-    (subst (λ (d : List ℕ). says d c.edit_entries-edited.result) (entries_stand) c.edit_entries-edited.ensures))) in
-    let x = entries _ c.in-To.is in (
+    (subst (λ (d : List ℕ). says d c.edit_entries.result) (entries_stand) c.edit_entries.ensures))) in
+    let x = entries _ c.in_ok-stop.was in (
       omega (arith, x.0, ends_together),
       x.1,
       omega (arith, x.2),
@@ -205,6 +205,6 @@ returns c =
           c.kind_of-kind.ensures.0
           c.kind_of-kind.ensures.2 c.args.text.now c.args.ml.now
           c.move_left.new.row (length c.next_field-header.result.now) (omega arith)
-          (header_moved) c.edit_entries-edited.new.text c.in-To.stop.end c.edit_entries-edited.new.ml c.in-To.stop.kept (drop c.in-To.stop.used
+          (header_moved) c.edit_entries.new.text c.in_ok-stop.stop.end c.edit_entries.new.ml c.in_ok-stop.stop.kept (drop c.in_ok-stop.stop.used
           c.args.ml.now) _ x.4 refl,
     )

@@ -1,7 +1,6 @@
 -- `pack_forward`. Invariant: the first i bytes are packed.
 -- Assumes nothing.
 use mathlib.Core.Path.{◌≡◌}
-use Prim.Native.Nat.{◌-◌, ◌≤◌}
 use lib.ListN.{length}
 use Rattle.lent.specs.Filled.{over}
 use Rattle.lent.specs.Lists.{tabulate}
@@ -9,7 +8,4 @@ use Rattle.packed.specs.Walks.{pair_at}
 use Rattle.packed_rows.proofs.pack_forward.Given as goal
 
 abbrev pub invariant-loop-i : goal.invariant-loop-i
-invariant-loop-i l = (l.i ≤ l.whole) × (l.out ≡ over (tabulate l.i (pair_at l.bases)) l.initial.out) × (length l.out ≡ length l.initial.out)
-
-abbrev pub decreases-loop-i : goal.decreases-loop-i
-decreases-loop-i l = l.whole - l.i
+invariant-loop-i l = (l.out ≡ over (tabulate l.i (pair_at l.bases)) l.initial.out) × (length l.out ≡ length l.initial.out)

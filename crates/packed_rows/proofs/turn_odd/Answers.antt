@@ -17,13 +17,18 @@ room_for_two : (v w x y : ℕ) → v ≡ x % 16 * 16 → w ≡ y / 16 → y < 25
 room_for_two v w x y p q l = omega (arith, p, q, l)
 
 pub loop-i-init : goal.loop-i-init
-loop-i-init c = (omega arith, omega arith, c.entry-last.ensures second_high c.second_high_table-second.ensures, over_none _, refl)
+loop-i-init c =
+    let none : c.args.n / 2 ≡ c.args.n / 2 - 0 = omega arith in (
+      c.entry-last.ensures second_high c.second_high_table-second.ensures ∙ ap (λ (k : ℕ). second_high (get_or c.args.packed.now k 0)) none,
+      over_none _,
+      refl,
+    )
 
 pub overflow_add-out : goal.overflow_add-out
 overflow_add-out c =
     let h = c.loop-i in
-    let b = get_or c.args.packed.now (h.at - 1) 0 in
-    omega (arith, room_for_two _ _ _ _ h.invariant.2 (c.entry.ensures first_low c.first_low_table-first.ensures) (reversed_small b))
+    let b = get_or c.args.packed.now (c.args.n / 2 - 1 - h.i) 0 in
+    omega (arith, room_for_two _ _ _ _ h.invariant.0 (c.entry.ensures first_low c.first_low_table-first.ensures) (reversed_small b))
 
 pub loop-i-preserved : goal.loop-i-preserved
 loop-i-preserved c =
@@ -31,17 +36,16 @@ loop-i-preserved c =
     let a = c.args in
     let packed = a.packed.now in
     let small : Bytes packed = λ p. omega (arith, c.type_inv.packed p) in
-    let here : h.at - 1 + 1 ≡ h.at = omega (arith, h.invariant.1) in
-    let last : h.last ≡ bits_reversed (get_or packed (h.at - 1 + 1) 0) % 16 * 16 =
-    h.invariant.2 ∙ ap (λ (k : ℕ). bits_reversed (get_or packed k 0) % 16 * 16) (sym here) in
-    let next : c.entry.result ≡ first_low (get_or packed (h.at - 1) 0) =
+    let less : a.n / 2 - 1 - h.i ≡ a.n / 2 - (h.i + 1) = omega arith in
+    let here : a.n / 2 - 1 - h.i + 1 ≡ a.n / 2 - h.i = omega arith in
+    let last : h.last ≡ bits_reversed (get_or packed (a.n / 2 - 1 - h.i + 1) 0) % 16 * 16 =
+    h.invariant.0 ∙ ap (λ (k : ℕ). bits_reversed (get_or packed k 0) % 16 * 16) (sym here) in
+    let next : c.entry.result ≡ first_low (get_or packed (a.n / 2 - 1 - h.i) 0) =
     c.entry.ensures first_low c.first_low_table-first.ensures in (
-      omega arith,
-      omega (arith, h.invariant.1),
-      c.entry-last-in-loop-i.ensures second_high c.second_high_table-second.ensures,
-      one_more (pair_at (reverse_complement (unpack a.n packed))) a.out.now h.out h.i _ h.invariant.3 (omega arith)
-          ((λ j. last j + next j) ∙ turned_odd a.n packed small h.i (h.at - 1) (omega arith) (omega (arith, h.invariant.1))),
-      length-set h.out h.i _ ∙ h.invariant.4,
+      c.entry-last-in-loop-i.ensures second_high c.second_high_table-second.ensures ∙ ap (λ (k : ℕ). second_high (get_or packed k 0)) less,
+      one_more (pair_at (reverse_complement (unpack a.n packed))) a.out.now h.out h.i _ h.invariant.1 (omega arith)
+          ((λ j. last j + next j) ∙ turned_odd a.n packed small h.i (a.n / 2 - 1 - h.i) (omega arith) (omega arith)),
+      length-set h.out h.i _ ∙ h.invariant.2,
     )
 
 pub returns : goal.returns
@@ -53,11 +57,11 @@ returns c =
     let small : Bytes packed = λ p. omega (arith, c.type_inv.packed p) in
     let m = a.n / 2 in
     let here : h.i ≡ m = omega arith in
-    let first : h.at ≡ 0 = omega (arith, h.invariant.1) in
+    let first : a.n / 2 - h.i ≡ 0 = omega arith in
     let all : m + 1 ≡ bytes_for a.n = omega arith in
-    let last : h.last ≡ bits_reversed (get_or packed 0 0) % 16 * 16 = h.invariant.2 ∙ ap (λ (k : ℕ). bits_reversed (get_or packed k 0) % 16 * 16) first in
+    let last : h.last ≡ bits_reversed (get_or packed 0 0) % 16 * 16 = h.invariant.0 ∙ ap (λ (k : ℕ). bits_reversed (get_or packed k 0) % 16 * 16) first in
     let made : set h.out m h.last ≡ over (tabulate (m + 1) (pair_at turned)) a.out.now =
-    one_more (pair_at turned) a.out.now h.out m _ (h.invariant.3 ∙ ap (λ (k : ℕ). over (tabulate k (pair_at turned)) a.out.now) here) (omega arith)
+    one_more (pair_at turned) a.out.now h.out m _ (h.invariant.1 ∙ ap (λ (k : ℕ). over (tabulate k (pair_at turned)) a.out.now) here) (omega arith)
     (last ∙ turned_last a.n packed small m (omega arith)) in
     made
     ∙ ap (λ (k : ℕ). over (tabulate k (pair_at turned)) a.out.now) all

@@ -1,7 +1,7 @@
 -- `turn_odd`. Invariant: the first i bytes of the turned SEQ are written.
 -- Assumes nothing.
 use mathlib.Core.Path.{◌≡◌}
-use Prim.Native.Nat.{◌*◌, ◌+◌, ◌-◌, ◌%◌, ◌≤◌}
+use Prim.Native.Nat.{◌*◌, ◌-◌, ◌%◌}
 use lib.ListN.{get_or, length}
 use Rattle.lent.specs.Filled.{over}
 use Rattle.lent.specs.Lists.{tabulate}
@@ -10,8 +10,5 @@ use Rattle.packed.specs.Walks.{pair_at}
 use Rattle.packed_rows.proofs.turn_odd.Given as goal
 
 abbrev pub invariant-loop-i : goal.invariant-loop-i
-invariant-loop-i l = (l.i ≤ l.whole) × (l.at + l.i ≡ l.whole) × (l.last ≡ bits_reversed (get_or l.packed l.at 0) % 16 * 16)
+invariant-loop-i l = (l.last ≡ bits_reversed (get_or l.packed (l.whole - l.i) 0) % 16 * 16)
     × (l.out ≡ over (tabulate l.i (pair_at (reverse_complement (unpack l.n l.packed)))) l.initial.out) × (length l.out ≡ length l.initial.out)
-
-abbrev pub decreases-loop-i : goal.decreases-loop-i
-decreases-loop-i l = l.whole - l.i

@@ -1,7 +1,7 @@
 -- `unpack_forward`. Invariant: the bases of the first i bytes are at the front of the row.
 -- Assumes nothing.
 use mathlib.Core.Path.{◌≡◌}
-use Prim.Native.Nat.{◌*◌, ◌-◌, ◌≤◌}
+use Prim.Native.Nat.{◌*◌}
 use lib.ListN.{length}
 use Rattle.lent.specs.Filled.{over}
 use Rattle.lent.specs.Lists.{tabulate}
@@ -9,7 +9,4 @@ use Rattle.packed.specs.Walks.{letter_at}
 use Rattle.packed_rows.proofs.unpack_forward.Given as goal
 
 abbrev pub invariant-loop-i : goal.invariant-loop-i
-invariant-loop-i l = (l.i ≤ l.whole) × (l.row ≡ over (tabulate (2 * l.i) (letter_at l.packed)) l.initial.row) × (length l.row ≡ length l.initial.row)
-
-abbrev pub decreases-loop-i : goal.decreases-loop-i
-decreases-loop-i l = l.whole - l.i
+invariant-loop-i l = (l.row ≡ over (tabulate (2 * l.i) (letter_at l.packed)) l.initial.row) × (length l.row ≡ length l.initial.row)

@@ -1,56 +1,50 @@
 -- `measure` checks for 1, and then reads the tag with all of ML, or with none if there is no ML.
 -- Assumes nothing.
-use mathlib.Core.Path.{◌∙◌, ◌≡◌, refl, subst, sym}
-use Prim.Native.Nat.{◌-◌}
+use Rattle.std.specs.Prelude.{Ok, Option}
+use Rattle.measuring.specs.declared.Count.{Count}
+use mathlib.Core.Path.{◌∙◌, ◌≡◌, ap, refl, subst, sym}
+use Prim.Native.Nat.{◌-◌, ◌≤◌, ℕ}
 use native.Mathlib.Omega.{arith}
-use mathlib.Core.Bool.{cond, false}
+use mathlib.Core.Bool.{Bool, cond, false}
 use mathlib.Core.List.{List, []}
-use lib.ListN.{length, length-take, take}
-use Rattle.lent.proofs.Tests.{cond_at_most}
+use lib.ListN.{length, take}
+use Rattle.lent.proofs.Outcome.{passed_on}
 use Rattle.lent.specs.Outcome.{Outcome}
-use Rattle.samtags.proofs.Taken.{taken_again, taken_is}
-use Rattle.samtags.specs.Reading.{nowhere}
+use Rattle.samtags.proofs.Taken.{taken_is}
+use Rattle.samtags.specs.Reading.{nowhere, read}
 use Rattle.samtags.specs.Spots.{Group}
 use Rattle.measuring.proofs.CountLaws.{read_taken}
 use Rattle.measuring.specs.Counting.{TagCounted}
-use Rattle.reading.proofs.AnswerLaws.{measured}
-use Rattle.reading.proofs.CheckLaws.{inside, one_ml, one_seq, one_text, tested}
+use Rattle.reading.proofs.AnswerLaws.{measured, never_none}
+use Rattle.reading.proofs.CheckLaws.{inside, tested}
 use Rattle.reading.proofs.measure.Goals as goal
 
-pub returns-then-seq-gt16000 : goal.returns-then-seq-gt16000
-returns-then-seq-gt16000 c =
-    one_seq c.args.has_ml c.args.seq.now c.args.mm.now c.args.ml.now (omega arith)
+-- the part of ML that is taken, if it is n bytes
+taken_part : (ml? : Bool) (ml : List ℕ) (n : ℕ) → n ≡ cond ml? (length ml) 0 → take (n - 0) ml ≡ cond ml? ml []
+taken_part ml? ml n h = taken_is ml? ml (n - 0) (omega (arith, h))
 
-pub returns-then-mm-gt65536 : goal.returns-then-mm-gt65536
-returns-then-mm-gt65536 c =
-    one_text c.args.has_ml c.args.seq.now c.args.mm.now c.args.ml.now (omega arith) (omega arith)
+-- the walk's answer x, where it is known to be r, and the outcome of the whole tag
+counted_as : (ml? : Bool) (seq mm ml : List ℕ) (n : ℕ) → n ≡ cond ml? (length ml) 0 → length seq ≤ 16000 → length mm ≤ 65536 → n ≤ 65536
+    → {x : Outcome (Option Count)} (r : Outcome (Option Count)) → x ≡ r → TagCounted false (read ml? nowhere seq mm (take (n - 0) ml)) x
+    → TagCounted false (tested ml? seq mm ml) r
+counted_as ml? seq mm ml n h a b f {x} r e t =
+    let same = read_taken ml? nowhere seq mm ml _ (taken_part ml? ml n h) ∙ sym (inside ml? seq mm ml a b n h f) in
+    subst (TagCounted false (tested ml? seq mm ml)) e (subst (λ (o : Outcome (List Group)). TagCounted false o x) same t)
 
-pub returns-then-taken-gt65536 : goal.returns-then-taken-gt65536
-returns-then-taken-gt65536 c =
-    one_ml c.args.has_ml c.args.seq.now c.args.mm.now c.args.ml.now (omega arith) (omega arith) c.values_taken-taken.result
-    c.values_taken-taken.ensures (omega arith)
+pub returns-in_err-count : goal.returns-in_err-count
+returns-in_err-count c =
+    rw (passed_on _ _ c.from_residual.ensures.1)
+    (counted_as c.args.has_ml c.args.seq.now c.args.mm.now c.args.ml.now _ c.values_taken-taken.ensures (omega arith) (omega arith) (omega arith)
+    _ c.in_err-count.was (c.count_tag.ensures nowhere (λ m. refl)))
 
-pub slice_bounds-count_tag-end : goal.slice_bounds-count_tag-end
-slice_bounds-count_tag-end c =
-    omega (arith, c.values_taken-taken.ensures, cond_at_most c.args.has_ml (length c.args.ml.now))
-
-pub count_tag-requires : goal.count_tag-requires
-count_tag-requires c =
-    let taken : take (c.values_taken-taken.result - 0) c.args.ml.now ≡ cond c.args.has_ml c.args.ml.now [] = (let n : c.values_taken-taken.result - 0 ≡ cond c.args.has_ml (length c.args.ml.now) 0 = omega (arith, c.values_taken-taken.ensures) in
-    taken_is c.args.has_ml c.args.ml.now (c.values_taken-taken.result - 0) n) in (
-      omega arith,
-      omega arith,
-      omega (arith, length-take (c.values_taken-taken.result - 0) c.args.ml.now),
-      rw (taken) (taken_again c.args.has_ml c.args.ml.now),
-    )
+pub unreachable-requires : goal.unreachable-requires
+unreachable-requires c =
+    never_none (tested c.args.has_ml c.args.seq.now c.args.mm.now c.args.ml.now)
+    (counted_as c.args.has_ml c.args.seq.now c.args.mm.now c.args.ml.now _ c.values_taken-taken.ensures (omega arith) (omega arith) (omega arith)
+    _ (c.in_ok-count.was ∙ ap Ok c.in_default.is) (c.count_tag.ensures nowhere (λ m. refl)))
 
 pub returns : goal.returns
 returns c =
-    let taken : take (c.values_taken-taken.result - 0) c.args.ml.now ≡ cond c.args.has_ml c.args.ml.now [] = (let n : c.values_taken-taken.result - 0 ≡ cond c.args.has_ml (length c.args.ml.now) 0 = omega (arith, c.values_taken-taken.ensures) in
-    taken_is c.args.has_ml c.args.ml.now (c.values_taken-taken.result - 0) n) in
-    let read-it = inside c.args.has_ml c.args.seq.now c.args.mm.now c.args.ml.now (omega arith) (omega arith) c.values_taken-taken.result
-    c.values_taken-taken.ensures (omega arith) in
-    measured (tested c.args.has_ml c.args.seq.now c.args.mm.now c.args.ml.now) c.count_tag.result
-    (subst (λ (o : Outcome (List Group)). TagCounted false o c.count_tag.result)
-    (read_taken c.args.has_ml nowhere c.args.seq.now c.args.mm.now c.args.ml.now _ (taken) ∙ sym read-it)
-    (c.count_tag.ensures nowhere (λ m. refl)))
+    measured (tested c.args.has_ml c.args.seq.now c.args.mm.now c.args.ml.now) c.in-Some.count
+    (counted_as c.args.has_ml c.args.seq.now c.args.mm.now c.args.ml.now _ c.values_taken-taken.ensures (omega arith) (omega arith) (omega arith)
+    _ (c.in_ok-count.was ∙ ap Ok c.in-Some.is) (c.count_tag.ensures nowhere (λ m. refl)))

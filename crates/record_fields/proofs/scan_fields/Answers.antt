@@ -1,4 +1,4 @@
-use mathlib.Core.Path.{◌∙◌, ◌≡◌, ap, refl, sym}
+use mathlib.Core.Path.{◌∙◌, ◌≡◌, ap, sym}
 use mathlib.Core.Bool.{false, true}
 use Prim.Native.Nat.{◌+◌, ◌≤◌, ℕ}
 use native.Mathlib.Omega.{arith}
@@ -6,27 +6,9 @@ use lib.Dec.{eqb}
 use lib.ListN.{drop, get_or, length}
 use Rattle.lent.specs.Answers.{is_done}
 use Rattle.record_fields.proofs.FieldsLaws.{done_step, fields_end, fields_stop, step_fits}
-use Rattle.record_fields.proofs.SpotLaws.{length_noted, noted_all, noted_none, noted_turn}
+use Rattle.record_fields.proofs.SpotLaws.{length_noted, noted_all, noted_turn}
 use Rattle.record_fields.specs.Fields.{fields}
 use Rattle.record_fields.proofs.scan_fields.Goals as goal
-
-pub no_spots-requires : goal.no_spots-requires
-no_spots-requires c = tt
-
-pub no_spots-requires-2 : goal.no_spots-requires-2
-no_spots-requires-2 c = tt
-
-pub loop-at-init : goal.loop-at-init
-loop-at-init c =
-    let a = c.args in
-    let ats = c.no_spots in
-    let sizes = c.no_spots-2 in (
-      c.requires,
-      refl,
-      noted_none a.bam.now a.from ats.result sizes.result ats.ensures.1 sizes.ensures.1,
-      sym ats.ensures.0,
-      sym sizes.ensures.0,
-    )
 
 pub returns-then-size-eq0 : goal.returns-then-size-eq0
 returns-then-size-eq0 c =
@@ -36,26 +18,13 @@ returns-then-size-eq0 c =
     let stop = fields_stop bam h.at f.result (omega arith) f.ensures (omega arith) in
     (sym (h.invariant.1 ∙ ap is_done stop), λ (t : false ≡ true). let z : ◌≡◌ {A = ℕ} 0 1 = cc in absurd (omega arith))
 
-pub overflow_add-at : goal.overflow_add-at
-overflow_add-at c =
-    let ahead : (4 ≤ c.field_size-size.result) × (c.loop-at.at + c.field_size-size.result ≤ length c.args.bam.now) = step_fits c.args.bam.now c.loop-at.at c.field_size-size.result (omega arith) c.field_size-size.ensures (λ q. omega arith) in
-    omega (arith, ahead)
-
 pub bounds-bam-at-in-loop-at : goal.bounds-bam-at-in-loop-at
 bounds-bam-at-in-loop-at c =
     let ahead : (4 ≤ c.field_size-size.result) × (c.loop-at.at + c.field_size-size.result ≤ length c.args.bam.now) = step_fits c.args.bam.now c.loop-at.at c.field_size-size.result (omega arith) c.field_size-size.ensures (λ q. omega arith) in
     omega (arith, ahead)
 
-pub name_by-name-requires : goal.name_by-name-requires
-name_by-name-requires c = tt
-
 pub overflow_add-at-in-loop-at : goal.overflow_add-at-in-loop-at
 overflow_add-at-in-loop-at c =
-    let ahead : (4 ≤ c.field_size-size.result) × (c.loop-at.at + c.field_size-size.result ≤ length c.args.bam.now) = step_fits c.args.bam.now c.loop-at.at c.field_size-size.result (omega arith) c.field_size-size.ensures (λ q. omega arith) in
-    omega (arith, ahead)
-
-pub loop-at-smaller : goal.loop-at-smaller
-loop-at-smaller c =
     let ahead : (4 ≤ c.field_size-size.result) × (c.loop-at.at + c.field_size-size.result ≤ length c.args.bam.now) = step_fits c.args.bam.now c.loop-at.at c.field_size-size.result (omega arith) c.field_size-size.ensures (λ q. omega arith) in
     omega (arith, ahead)
 

@@ -11,22 +11,18 @@ use Rattle.record_rows.proofs.LetterLaws.{from_the_end, turned_list, turned_at}
 use Rattle.record_rows.proofs.letters_backward.Goals as goal
 
 pub loop-i-init : goal.loop-i-init
-loop-i-init c = (omega arith, over_none _, refl)
-
-pub complement-requires : goal.complement-requires
-complement-requires c = c.complement_table-table.ensures
+loop-i-init c = (over_none _, refl)
 
 pub loop-i-preserved : goal.loop-i-preserved
 loop-i-preserved c =
     let here : c.complement.result ≡ turned_at c.args.letters.now c.loop-i.i = from_the_end c.args.letters.now _ c.loop-i.i _ c.complement.ensures (omega arith) in (
-      omega arith,
-      one_more (turned_at c.args.letters.now) c.args.row.now c.loop-i.row c.loop-i.i _ c.loop-i.invariant.1 (omega arith) here,
-      length-set c.loop-i.row c.loop-i.i _ ∙ c.loop-i.invariant.2,
+      one_more (turned_at c.args.letters.now) c.args.row.now c.loop-i.row c.loop-i.i _ c.loop-i.invariant.0 (omega arith) here,
+      length-set c.loop-i.row c.loop-i.i _ ∙ c.loop-i.invariant.1,
     )
 
 pub returns : goal.returns
 returns c =
     let all : c.loop-i.i ≡ length c.args.letters.now = omega arith in
-    c.loop-i.invariant.1
+    c.loop-i.invariant.0
     ∙ ap (λ (k : ℕ). over (tabulate k (turned_at c.args.letters.now)) c.args.row.now) all
     ∙ ap (λ (l : List ℕ). over l c.args.row.now) (sym (turned_list c.args.letters.now))

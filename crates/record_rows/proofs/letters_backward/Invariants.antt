@@ -1,7 +1,6 @@
 -- `letters_backward`. Invariant: the complements of the last i letters, in reverse order, are at the front of the row.
 -- Assumes nothing.
 use mathlib.Core.Path.{◌≡◌}
-use Prim.Native.Nat.{◌-◌, ◌≤◌}
 use lib.ListN.{length}
 use Rattle.lent.specs.Filled.{over}
 use Rattle.lent.specs.Lists.{tabulate}
@@ -9,7 +8,4 @@ use Rattle.record_rows.proofs.LetterLaws.{turned_at}
 use Rattle.record_rows.proofs.letters_backward.Given as goal
 
 abbrev pub invariant-loop-i : goal.invariant-loop-i
-invariant-loop-i l = (l.i ≤ l.n) × (l.row ≡ over (tabulate l.i (turned_at l.letters)) l.initial.row) × (length l.row ≡ length l.initial.row)
-
-abbrev pub decreases-loop-i : goal.decreases-loop-i
-decreases-loop-i l = l.n - l.i
+invariant-loop-i l = (l.row ≡ over (tabulate l.i (turned_at l.letters)) l.initial.row) × (length l.row ≡ length l.initial.row)

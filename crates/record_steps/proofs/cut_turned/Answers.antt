@@ -8,7 +8,6 @@ use Rattle.record_fates.proofs.FateLaws.{opened_inside}
 use Rattle.record_fields.specs.Bam.{head_size}
 use Rattle.record_fields.specs.Fields.{fields_of}
 use Rattle.record_steps.proofs.HeadLaws.{cut_is_made, cut_to, cut_unknown, cut_unlike, edit_needs, fields_by, left_by, removal_needs, removed_from}
-use Rattle.rewriting.specs.Starts.{start_says}
 use Rattle.record_steps.proofs.cut_turned.Goals as goal
 
 pub remove_record-requires : goal.remove_record-requires
@@ -21,7 +20,7 @@ returns-in_default c =
     let fs = fields_of (drop (head_size x) x) in
     c.remove_record.ensures
     ∙ left_by c.args.out.now (removed_from x c.args.head c.requires.opened_as.1 (length c.args.out.now)
-    ∙ fields_by x (length c.args.out.now) fs (sym (cut_unknown x c.args.old.now c.args.new.now fs (start_says c.args.start) (sym (ap start_says c.in_default.is)))))
+    ∙ fields_by x (length c.args.out.now) fs (sym (cut_unknown x c.args.old.now c.args.new.now fs c.args.start (sym c.in_default.is))))
 
 pub remove_record-requires-then-not-window : goal.remove_record-requires-then-not-window
 remove_record-requires-then-not-window c =
@@ -33,7 +32,7 @@ returns-then-not-window c =
     let fs = fields_of (drop (head_size x) x) in
     c.remove_record-then-not-window.ensures
     ∙ left_by c.args.out.now (removed_from x c.args.head c.requires.opened_as.1 (length c.args.out.now)
-    ∙ fields_by x (length c.args.out.now) fs (sym (cut_unlike x c.args.old.now c.args.new.now fs (start_says c.args.start) c.in-Known.lo (sym (ap start_says c.in-Known.is))
+    ∙ fields_by x (length c.args.out.now) fs (sym (cut_unlike x c.args.old.now c.args.new.now fs c.args.start c.in-Some.lo (sym c.in-Some.is)
     (sym c.lies_in-window.ensures ∙ c.if-not-window.true))))
 
 pub edit_record-requires : goal.edit_record-requires
@@ -47,7 +46,7 @@ returns c =
     let x = c.args.bam.now in
     let fs = fields_of (drop (head_size x) x) in
     c.edit_record.ensures
-    ∙ left_by c.args.out.now (cut_is_made x c.args.head c.requires.opened_as.1 (length c.args.out.now) c.in-Known.lo c.args.old.now c.args.new.now
+    ∙ left_by c.args.out.now (cut_is_made x c.args.head c.requires.opened_as.1 (length c.args.out.now) c.in-Some.lo c.args.old.now c.args.new.now
     (not (eqb (length c.args.old.now) (length c.args.new.now))) refl c.requires.bam_value.1
-    ∙ fields_by x (length c.args.out.now) fs (sym (cut_to x c.args.old.now c.args.new.now fs (start_says c.args.start) c.in-Known.lo (sym (ap start_says c.in-Known.is))
+    ∙ fields_by x (length c.args.out.now) fs (sym (cut_to x c.args.old.now c.args.new.now fs c.args.start c.in-Some.lo (sym c.in-Some.is)
     (sym c.lies_in-window.ensures ∙ c.if-not-window.false))))

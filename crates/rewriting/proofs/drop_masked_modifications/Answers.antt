@@ -6,7 +6,6 @@ use mathlib.Core.Bool.{true}
 use mathlib.Core.List.{[]}
 use lib.ListN.{length}
 use Rattle.changing.specs.Windows.{window_edit}
-use Rattle.lent.specs.Outcome.{tag_says}
 use Rattle.editing.specs.Rewrote.{leaves_tag, rewrote}
 use Rattle.lent.specs.Outcome.{Outcome}
 use Rattle.rewriting.proofs.Orders.{left_alone, mask_on, mask_one, mask_one_after, mask_two}
@@ -44,7 +43,7 @@ edit_tag-requires c =
 pub returns : goal.returns
 returns c =
     let domain : in_domain c.args.has_ml c.args.before.now c.args.mm.now c.args.ml.now ≡ true = sym c.in_domain-fits.ensures ∙ c.if-not-fits.false in
-    let made : rewrote (tag_says c.edit_tag.result) c.edit_tag.new.mm_out c.edit_tag.new.ml_out
+    let made : rewrote c.edit_tag.result c.edit_tag.new.mm_out c.edit_tag.new.ml_out
     ≡ leaves_tag c.args.has_ml (in_room c.args.has_ml (length c.args.mm_out.now) (length c.args.ml_out.now)
     (edited (window_edit 0 c.args.after.now []) c.args.has_ml c.args.before.now c.args.mm.now c.args.ml.now)) c.args.mm_out.now c.args.ml_out.now =
     c.edit_tag.ensures in

@@ -5,7 +5,7 @@ use Prim.Native.Nat.{ℕ}
 use mathlib.Core.List.{List}
 use lib.ListN.{length}
 use Rattle.changing.specs.Windows.{window_edit}
-use Rattle.lent.specs.Outcome.{Outcome, tag_says}
+use Rattle.lent.specs.Outcome.{Outcome}
 use Rattle.editing.specs.Rewrote.{leaves_tag, rewrote}
 use Rattle.rewriting.proofs.Orders.{drop_on}
 use Rattle.samtags.proofs.Taken.{in_domain_lem}
@@ -19,7 +19,7 @@ edit_tag-requires c =
 
 pub returns : goal.returns
 returns c =
-    let made : rewrote (tag_says c.edit_tag.result) c.edit_tag.new.mm_out c.edit_tag.new.ml_out
+    let made : rewrote c.edit_tag.result c.edit_tag.new.mm_out c.edit_tag.new.ml_out
     ≡ leaves_tag c.args.has_ml (in_room c.args.has_ml (length c.args.mm_out.now) (length c.args.ml_out.now)
     (edited (window_edit 0 c.args.seq.now c.mark_places.new.row) c.args.has_ml c.args.seq.now c.args.mm.now c.args.ml.now)) c.args.mm_out.now c.args.ml_out.now =
     c.edit_tag.ensures in

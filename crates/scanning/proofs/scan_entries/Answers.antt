@@ -1,39 +1,36 @@
+use Rattle.std.specs.Prelude.{Ok, Err}
 use mathlib.Core.Path.{◌∙◌, ◌≡◌, ap, refl, sym}
 use Prim.Native.Nat.{◌+◌, ◌-◌, ◌<◌, ◌≤◌}
 use native.Mathlib.Omega.{arith}
 use mathlib.Core.List.{[]}
 use lib.ListN.{drop, length, length-drop, take, set}
 use lib.Seq.{length-take-le}
-use Rattle.lent.proofs.Outcome.{on_done_refused}
-use Rattle.lent.specs.Outcome.{done, on_done, refused}
+use Rattle.lent.proofs.Outcome.{on_done_refused, passed_on}
+use Rattle.lent.specs.Outcome.{on_done}
 use Rattle.samtags.specs.Decimal.{value}
 use Rattle.samtags.specs.Reading.{nowhere, read_entry, read_spots}
 use Rattle.samtags.specs.Spots.{tracked}
 use Rattle.samtags.specs.Text.{led_by, up_to}
 use Rattle.places.proofs.TextLaws.{ends_semicolon, entry_eight, entry_refused, entry_went, rest_semicolon, turn_end, turn_field, turn_on, turn_refused, turn_rest}
-use Rattle.places.specs.Answers.{entry_refusal, entry_says}
+use Rattle.places.specs.Answers.{entry_says}
 use Rattle.places.specs.Walk.{tracked_from}
 use Rattle.scanning.proofs.ScanLaws.{list_end, list_one}
 use Rattle.scanning.specs.Scanning.{columns, listed_spots}
 use Rattle.scanning.proofs.scan_entries.Goals as goal
 
-pub loop-at-init : goal.loop-at-init
-loop-at-init c = (refl, omega arith, omega arith, omega arith, omega arith, omega arith, refl, refl, refl, refl)
-
-pub returns-in_default : goal.returns-in_default
+pub returns-in_err-place : goal.returns-in_err-place
 unfolding tracked tracked_from
-returns-in_default c =
+returns-in_err-place c =
     let places = tracked_from c.args.base c.loop-at.from.0 c.args.seq.now in
     let left = length c.args.ml.now - c.loop-at.used in
     let low : c.loop-at.at < length c.args.text.now = omega arith in
-    let six-or-seven : read_entry c.args.values nowhere c.next_field-field.result.now places left ≡ refused c.in_default.field-0 =
-    entry_refused c.args.values nowhere c.next_field-field.result.now places left c.in_default.field-0
-    (sym (ap entry_says c.in_default.is) ∙ c.find_entry-entry.ensures) in
-    on_done_refused _ _ _ (c.loop-at.invariant.6
+    let six-or-seven : read_entry c.args.values nowhere c.next_field-field.result.now places left ≡ Err c.in_err-place.field-0.0 =
+    entry_refused c.args.values nowhere c.next_field-field.result.now places left c.in_err-place.field-0.0
+    (sym (ap entry_says c.in_err-place.was) ∙ c.find_entry.ensures) in
+    rw (passed_on _ _ c.from_residual.ensures.1) (on_done_refused _ _ _ (c.loop-at.invariant.6
     ∙ ap (on_done (listed_spots c.args.start.group (columns c.loop-at.groups c.loop-at.places c.loop-at.starts) c.loop-at.calls c.loop-at.used))
     (turn_refused c.args.values nowhere c.args.text.now c.loop-at.at low c.loop-at-test.true c.next_field-field.result.now
-    c.next_field-field.ensures places c.args.ml.now c.loop-at.used c.in_default.field-0 six-or-seven)
-    ∙ ap refused (sym (c.refusal.ensures ∙ ap entry_refusal c.in_default.is)))
+    c.next_field-field.ensures places c.args.ml.now c.loop-at.used c.in_err-place.field-0.0 six-or-seven)))
 
 pub returns-then-ml-used : goal.returns-then-ml-used
 unfolding tracked tracked_from
@@ -45,74 +42,34 @@ returns-then-ml-used c =
     ∙ ap (on_done (listed_spots c.args.start.group (columns c.loop-at.groups c.loop-at.places c.loop-at.starts) c.loop-at.calls c.loop-at.used))
     (turn_refused c.args.values nowhere c.args.text.now c.loop-at.at low c.loop-at-test.true c.next_field-field.result.now
     c.next_field-field.ensures places c.args.ml.now c.loop-at.used _
-    (entry_eight c.args.values nowhere c.next_field-field.result.now places left c.in-On.place.0
-    (sym (ap entry_says c.in-On.is) ∙ c.find_entry-entry.ensures) (omega arith))))
+    (entry_eight c.args.values nowhere c.next_field-field.result.now places left c.in_ok-place.place.0
+    (sym (ap entry_says c.in_ok-place.was) ∙ c.find_entry.ensures) (omega arith))))
 
 pub list_call-requires : goal.list_call-requires
 list_call-requires c =
-    let went : (read_entry c.args.values nowhere c.next_field-field.result.now (tracked_from c.args.base c.loop-at.from.0 c.args.seq.now) (length c.args.ml.now - c.loop-at.used) ≡ done (c.in-On.place.0, tracked_from c.args.base (c.in-On.place.0 + 1) c.args.seq.now)) × (c.in-On.place.0 < length c.args.seq.now) = entry_went c.args.values nowhere c.next_field-field.result.now c.loop-at.from.0 c.args.base c.args.seq.now
-    (length c.args.ml.now - c.loop-at.used) c.in-On.place.0
-    (sym (ap entry_says c.in-On.is) ∙ c.find_entry-entry.ensures) (omega arith) refl in
+    let went : (read_entry c.args.values nowhere c.next_field-field.result.now (tracked_from c.args.base c.loop-at.from.0 c.args.seq.now) (length c.args.ml.now - c.loop-at.used) ≡ Ok (c.in_ok-place.place.0, tracked_from c.args.base (c.in_ok-place.place.0 + 1) c.args.seq.now)) × (c.in_ok-place.place.0 < length c.args.seq.now) = entry_went c.args.values nowhere c.next_field-field.result.now c.loop-at.from.0 c.args.base c.args.seq.now
+    (length c.args.ml.now - c.loop-at.used) c.in_ok-place.place.0
+    (sym (ap entry_says c.in_ok-place.was) ∙ c.find_entry.ensures) (omega arith) refl in
     omega (arith, (went).1)
 
 pub overflow_add-from : goal.overflow_add-from
 overflow_add-from c =
-    let went : (read_entry c.args.values nowhere c.next_field-field.result.now (tracked_from c.args.base c.loop-at.from.0 c.args.seq.now) (length c.args.ml.now - c.loop-at.used) ≡ done (c.in-On.place.0, tracked_from c.args.base (c.in-On.place.0 + 1) c.args.seq.now)) × (c.in-On.place.0 < length c.args.seq.now) = entry_went c.args.values nowhere c.next_field-field.result.now c.loop-at.from.0 c.args.base c.args.seq.now
-    (length c.args.ml.now - c.loop-at.used) c.in-On.place.0
-    (sym (ap entry_says c.in-On.is) ∙ c.find_entry-entry.ensures) (omega arith) refl in
+    let went : (read_entry c.args.values nowhere c.next_field-field.result.now (tracked_from c.args.base c.loop-at.from.0 c.args.seq.now) (length c.args.ml.now - c.loop-at.used) ≡ Ok (c.in_ok-place.place.0, tracked_from c.args.base (c.in_ok-place.place.0 + 1) c.args.seq.now)) × (c.in_ok-place.place.0 < length c.args.seq.now) = entry_went c.args.values nowhere c.next_field-field.result.now c.loop-at.from.0 c.args.base c.args.seq.now
+    (length c.args.ml.now - c.loop-at.used) c.in_ok-place.place.0
+    (sym (ap entry_says c.in_ok-place.was) ∙ c.find_entry.ensures) (omega arith) refl in
     omega (arith, (went).1)
-
-pub overflow_add-used : goal.overflow_add-used
-overflow_add-used c =
-    let bounds : (c.loop-at.used + c.args.values ≤ length c.args.ml.now) × (length c.args.ml.now ≤ 65536) × (c.loop-at.calls ≤ c.loop-at.at) × (c.args.start.at ≤ c.loop-at.at) × (c.loop-at.at + 1 + length c.next_field-field.result.now < length c.args.text.now) × (length c.args.text.now ≤ 65536) = (let low : c.loop-at.at < length c.args.text.now = omega arith in
-    let rest = turn_rest c.args.values nowhere c.args.text.now c.loop-at.at low c.loop-at-test.true
-    c.next_field-field.result.now c.next_field-field.ensures [] c.args.ml.now c.loop-at.used in
-    omega (arith, rest)) in
-    omega (arith, bounds)
-
-pub overflow_add-calls : goal.overflow_add-calls
-overflow_add-calls c =
-    let bounds : (c.loop-at.used + c.args.values ≤ length c.args.ml.now) × (length c.args.ml.now ≤ 65536) × (c.loop-at.calls ≤ c.loop-at.at) × (c.args.start.at ≤ c.loop-at.at) × (c.loop-at.at + 1 + length c.next_field-field.result.now < length c.args.text.now) × (length c.args.text.now ≤ 65536) = (let low : c.loop-at.at < length c.args.text.now = omega arith in
-    let rest = turn_rest c.args.values nowhere c.args.text.now c.loop-at.at low c.loop-at-test.true
-    c.next_field-field.result.now c.next_field-field.ensures [] c.args.ml.now c.loop-at.used in
-    omega (arith, rest)) in
-    omega (arith, bounds)
-
-pub overflow_add-at-in-loop-at : goal.overflow_add-at-in-loop-at
-overflow_add-at-in-loop-at c =
-    let bounds : (c.loop-at.used + c.args.values ≤ length c.args.ml.now) × (length c.args.ml.now ≤ 65536) × (c.loop-at.calls ≤ c.loop-at.at) × (c.args.start.at ≤ c.loop-at.at) × (c.loop-at.at + 1 + length c.next_field-field.result.now < length c.args.text.now) × (length c.args.text.now ≤ 65536) = (let low : c.loop-at.at < length c.args.text.now = omega arith in
-    let rest = turn_rest c.args.values nowhere c.args.text.now c.loop-at.at low c.loop-at-test.true
-    c.next_field-field.result.now c.next_field-field.ensures [] c.args.ml.now c.loop-at.used in
-    omega (arith, rest)) in
-    omega (arith, bounds)
-
-pub overflow_add-at-in-loop-at-2 : goal.overflow_add-at-in-loop-at-2
-overflow_add-at-in-loop-at-2 c =
-    let bounds : (c.loop-at.used + c.args.values ≤ length c.args.ml.now) × (length c.args.ml.now ≤ 65536) × (c.loop-at.calls ≤ c.loop-at.at) × (c.args.start.at ≤ c.loop-at.at) × (c.loop-at.at + 1 + length c.next_field-field.result.now < length c.args.text.now) × (length c.args.text.now ≤ 65536) = (let low : c.loop-at.at < length c.args.text.now = omega arith in
-    let rest = turn_rest c.args.values nowhere c.args.text.now c.loop-at.at low c.loop-at-test.true
-    c.next_field-field.result.now c.next_field-field.ensures [] c.args.ml.now c.loop-at.used in
-    omega (arith, rest)) in
-    omega (arith, bounds)
-
-pub loop-at-smaller : goal.loop-at-smaller
-loop-at-smaller c =
-    let bounds : (c.loop-at.used + c.args.values ≤ length c.args.ml.now) × (length c.args.ml.now ≤ 65536) × (c.loop-at.calls ≤ c.loop-at.at) × (c.args.start.at ≤ c.loop-at.at) × (c.loop-at.at + 1 + length c.next_field-field.result.now < length c.args.text.now) × (length c.args.text.now ≤ 65536) = (let low : c.loop-at.at < length c.args.text.now = omega arith in
-    let rest = turn_rest c.args.values nowhere c.args.text.now c.loop-at.at low c.loop-at-test.true
-    c.next_field-field.result.now c.next_field-field.ensures [] c.args.ml.now c.loop-at.used in
-    omega (arith, rest)) in
-    omega (arith, bounds)
 
 pub loop-at-preserved : goal.loop-at-preserved
 loop-at-preserved c =
-    let went : (read_entry c.args.values nowhere c.next_field-field.result.now (tracked_from c.args.base c.loop-at.from.0 c.args.seq.now) (length c.args.ml.now - c.loop-at.used) ≡ done (c.in-On.place.0, tracked_from c.args.base (c.in-On.place.0 + 1) c.args.seq.now)) × (c.in-On.place.0 < length c.args.seq.now) = entry_went c.args.values nowhere c.next_field-field.result.now c.loop-at.from.0 c.args.base c.args.seq.now
-    (length c.args.ml.now - c.loop-at.used) c.in-On.place.0
-    (sym (ap entry_says c.in-On.is) ∙ c.find_entry-entry.ensures) (omega arith) refl in
+    let went : (read_entry c.args.values nowhere c.next_field-field.result.now (tracked_from c.args.base c.loop-at.from.0 c.args.seq.now) (length c.args.ml.now - c.loop-at.used) ≡ Ok (c.in_ok-place.place.0, tracked_from c.args.base (c.in_ok-place.place.0 + 1) c.args.seq.now)) × (c.in_ok-place.place.0 < length c.args.seq.now) = entry_went c.args.values nowhere c.next_field-field.result.now c.loop-at.from.0 c.args.base c.args.seq.now
+    (length c.args.ml.now - c.loop-at.used) c.in_ok-place.place.0
+    (sym (ap entry_says c.in_ok-place.was) ∙ c.find_entry.ensures) (omega arith) refl in
     let bounds : (c.loop-at.used + c.args.values ≤ length c.args.ml.now) × (length c.args.ml.now ≤ 65536) × (c.loop-at.calls ≤ c.loop-at.at) × (c.args.start.at ≤ c.loop-at.at) × (c.loop-at.at + 1 + length c.next_field-field.result.now < length c.args.text.now) × (length c.args.text.now ≤ 65536) = (let low : c.loop-at.at < length c.args.text.now = omega arith in
     let rest = turn_rest c.args.values nowhere c.args.text.now c.loop-at.at low c.loop-at-test.true
     c.next_field-field.result.now c.next_field-field.ensures [] c.args.ml.now c.loop-at.used in
     omega (arith, rest)) in
     let w = went in
-    let p = c.in-On.place.0 in
+    let p = c.in_ok-place.place.0 in
     let t = c.args.text.now in
     let places = tracked_from c.args.base c.loop-at.from.0 c.args.seq.now in
     let b = bounds in

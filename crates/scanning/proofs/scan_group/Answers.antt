@@ -5,15 +5,15 @@ use Prim.Native.Nat.{◌+◌, ℕ}
 use native.Mathlib.Omega.{arith}
 use mathlib.Core.List.{List}
 use lib.ListN.{drop, length}
+use Rattle.lent.proofs.Outcome.{passed_on}
 use Rattle.lent.specs.Outcome.{Outcome}
-use Rattle.samtags.specs.Reading.{nowhere, read_group, read_spots}
+use Rattle.samtags.specs.Reading.{nowhere, read_spots}
 use Rattle.samtags.specs.Spots.{Spot, tracked}
 use Rattle.samtags.specs.Text.{led_by, up_to}
 use Rattle.places.proofs.TextLaws.{field_from, group_short, rest_from}
 use Rattle.scanning.proofs.ScanLaws.{group_listed, group_refused}
-use Rattle.scanning.specs.Scanning.{EntriesScanned, GroupScanned, columns}
+use Rattle.scanning.specs.Scanning.{EntriesScanned, columns}
 use Rattle.scanning.specs.declared.Cursor.{Cursor}
-use Rattle.scanning.specs.declared.Scan.{Scan}
 use Rattle.scanning.proofs.scan_group.Goals as goal
 
 pub returns-then-header-lt2 : goal.returns-then-header-lt2
@@ -21,14 +21,14 @@ returns-then-header-lt2 c =
     group_short c.args.has_ml nowhere c.args.seq.now c.args.text.now c.args.start.at c.next_field-header.result.now c.next_field-header.ensures
     (drop c.args.start.used c.args.ml.now) c.if-header-lt2.true
 
-pub scan_entries-scanned-requires : goal.scan_entries-scanned-requires
-scan_entries-scanned-requires c =
+pub scan_entries-requires : goal.scan_entries-requires
+scan_entries-requires c =
     let ends_together : let n = length c.next_field-header.result.now in c.args.start.at + n + length (up_to 59 (drop (c.args.start.at + n) c.args.text.now)) ≡ c.args.start.at + length (up_to 59 (drop c.args.start.at c.args.text.now)) = omega (arith, rest_from c.args.text.now c.args.start.at (length c.next_field-header.result.now) (ap length (sym c.next_field-header.ensures))) in
     let n = length c.next_field-header.result.now in
     let e = ends_together in record { seq_len_bound = (omega arith, omega arith, omega arith); text_in_bounds = omega (arith, e); text_len = field_from c.args.text.now c.args.start.at n (ap length (sym c.next_field-header.ensures)); used_in_bounds = omega arith }
 
-pub returns-in_default : goal.returns-in_default
-returns-in_default c =
+pub returns-in_err-end : goal.returns-in_err-end
+returns-in_err-end c =
     let entries_at : Cursor = record {
       at = c.args.start.at + length
           c.next_field-header.result.now;
@@ -40,17 +40,15 @@ returns-in_default c =
     (led_by 44 (up_to 59 (drop (c.args.start.at + length c.next_field-header.result.now)
     c.args.text.now)))
     (tracked c.base_of-base.result c.args.seq.now) (drop c.args.start.used c.args.ml.now) in
-    let entries : (r : Scan) → c.scan_entries-scanned.result ≡ r → EntriesScanned c.args.text.now c.args.ml.now (entries_at) (spots_at) (columns c.args.groups.now c.args.places.now c.args.starts.now) r (columns c.scan_entries-scanned.new.groups c.scan_entries-scanned.new.places c.scan_entries-scanned.new.starts) = λ r e. subst (λ (x : Scan). EntriesScanned c.args.text.now c.args.ml.now (entries_at) (spots_at)
+    let entries : (r : Outcome Cursor) → c.scan_entries.result ≡ r → EntriesScanned c.args.text.now c.args.ml.now (entries_at) (spots_at) (columns c.args.groups.now c.args.places.now c.args.starts.now) r (columns c.scan_entries.new.groups c.scan_entries.new.places c.scan_entries.new.starts) = λ r e. subst (λ (x : Outcome Cursor). EntriesScanned c.args.text.now c.args.ml.now (entries_at) (spots_at)
     (columns c.args.groups.now c.args.places.now c.args.starts.now) x
-    (columns c.scan_entries-scanned.new.groups c.scan_entries-scanned.new.places c.scan_entries-scanned.new.starts)) e c.scan_entries-scanned.ensures in
-    subst (λ (x : Scan). GroupScanned c.args.text.now c.args.ml.now c.args.start
-    (read_group c.args.has_ml nowhere c.args.seq.now (up_to 59 (drop c.args.start.at c.args.text.now)) (drop c.args.start.used c.args.ml.now))
-    (columns c.args.groups.now c.args.places.now c.args.starts.now) x (columns c.scan_entries-scanned.new.groups c.scan_entries-scanned.new.places c.scan_entries-scanned.new.starts)) (sym c.in_default.is)
+    (columns c.scan_entries.new.groups c.scan_entries.new.places c.scan_entries.new.starts)) e c.scan_entries.ensures in
+    rw (passed_on _ _ c.from_residual.ensures.1)
     (group_refused c.args.has_ml c.args.seq.now c.args.text.now c.args.start.at c.next_field-header.result.now c.next_field-header.ensures (drop c.args.start.used c.args.ml.now)
     c.if-header-lt2.false
     c.values_if-values.result c.base_of-base.result
-    c.values_if-values.ensures c.base_of-base.ensures c.in_default.field-0
-    (entries _ c.in_default.is))
+    c.values_if-values.ensures c.base_of-base.ensures c.in_err-end.field-0.0
+    (entries _ c.in_err-end.was))
 
 pub overflow_add-result : goal.overflow_add-result
 overflow_add-result c =
@@ -65,11 +63,11 @@ overflow_add-result c =
     (led_by 44 (up_to 59 (drop (c.args.start.at + length c.next_field-header.result.now)
     c.args.text.now)))
     (tracked c.base_of-base.result c.args.seq.now) (drop c.args.start.used c.args.ml.now) in
-    let entries : (r : Scan) → c.scan_entries-scanned.result ≡ r → EntriesScanned c.args.text.now c.args.ml.now (entries_at) (spots_at) (columns c.args.groups.now c.args.places.now c.args.starts.now) r (columns c.scan_entries-scanned.new.groups c.scan_entries-scanned.new.places c.scan_entries-scanned.new.starts) = λ r e. subst (λ (x : Scan). EntriesScanned c.args.text.now c.args.ml.now (entries_at) (spots_at)
+    let entries : (r : Outcome Cursor) → c.scan_entries.result ≡ r → EntriesScanned c.args.text.now c.args.ml.now (entries_at) (spots_at) (columns c.args.groups.now c.args.places.now c.args.starts.now) r (columns c.scan_entries.new.groups c.scan_entries.new.places c.scan_entries.new.starts) = λ r e. subst (λ (x : Outcome Cursor). EntriesScanned c.args.text.now c.args.ml.now (entries_at) (spots_at)
     (columns c.args.groups.now c.args.places.now c.args.starts.now) x
-    (columns c.scan_entries-scanned.new.groups c.scan_entries-scanned.new.places c.scan_entries-scanned.new.starts)) e c.scan_entries-scanned.ensures in
+    (columns c.scan_entries.new.groups c.scan_entries.new.places c.scan_entries.new.starts)) e c.scan_entries.ensures in
     let ends_together : let n = length c.next_field-header.result.now in c.args.start.at + n + length (up_to 59 (drop (c.args.start.at + n) c.args.text.now)) ≡ c.args.start.at + length (up_to 59 (drop c.args.start.at c.args.text.now)) = omega (arith, rest_from c.args.text.now c.args.start.at (length c.next_field-header.result.now) (ap length (sym c.next_field-header.ensures))) in
-    let x = entries _ c.in-To.is in
+    let x = entries _ c.in_ok-end.was in
     omega (
       arith,
       x.0,
@@ -90,11 +88,11 @@ returns c =
     (led_by 44 (up_to 59 (drop (c.args.start.at + length c.next_field-header.result.now)
     c.args.text.now)))
     (tracked c.base_of-base.result c.args.seq.now) (drop c.args.start.used c.args.ml.now) in
-    let entries : (r : Scan) → c.scan_entries-scanned.result ≡ r → EntriesScanned c.args.text.now c.args.ml.now (entries_at) (spots_at) (columns c.args.groups.now c.args.places.now c.args.starts.now) r (columns c.scan_entries-scanned.new.groups c.scan_entries-scanned.new.places c.scan_entries-scanned.new.starts) = λ r e. subst (λ (x : Scan). EntriesScanned c.args.text.now c.args.ml.now (entries_at) (spots_at)
+    let entries : (r : Outcome Cursor) → c.scan_entries.result ≡ r → EntriesScanned c.args.text.now c.args.ml.now (entries_at) (spots_at) (columns c.args.groups.now c.args.places.now c.args.starts.now) r (columns c.scan_entries.new.groups c.scan_entries.new.places c.scan_entries.new.starts) = λ r e. subst (λ (x : Outcome Cursor). EntriesScanned c.args.text.now c.args.ml.now (entries_at) (spots_at)
     (columns c.args.groups.now c.args.places.now c.args.starts.now) x
-    (columns c.scan_entries-scanned.new.groups c.scan_entries-scanned.new.places c.scan_entries-scanned.new.starts)) e c.scan_entries-scanned.ensures in
+    (columns c.scan_entries.new.groups c.scan_entries.new.places c.scan_entries.new.starts)) e c.scan_entries.ensures in
     let ends_together : let n = length c.next_field-header.result.now in c.args.start.at + n + length (up_to 59 (drop (c.args.start.at + n) c.args.text.now)) ≡ c.args.start.at + length (up_to 59 (drop c.args.start.at c.args.text.now)) = omega (arith, rest_from c.args.text.now c.args.start.at (length c.next_field-header.result.now) (ap length (sym c.next_field-header.ensures))) in
-    let x = entries _ c.in-To.is in (
+    let x = entries _ c.in_ok-end.was in (
       omega (arith, x.0, ends_together),
       x.1,
       x.2,

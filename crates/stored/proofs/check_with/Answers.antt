@@ -6,7 +6,6 @@ use native.Mathlib.Omega.{arith}
 use mathlib.Core.List.{List}
 use lib.ListN.{take}
 use Rattle.lent.specs.Outcome.{on_done}
-use Rattle.reading.specs.Answers.{reading_says}
 use Rattle.reading.specs.Calls.{counts_of}
 use Rattle.samtags.specs.Reading.{read_tag}
 use Rattle.packed.proofs.Turning.{read_front}
@@ -15,7 +14,7 @@ use Rattle.stored.proofs.check_with.Goals as goal
 pub returns : goal.returns
 returns c =
     let row = c.unpack_row.new.row in
-    let read : reading_says c.check_tag.result ≡ on_done counts_of (read_tag c.args.has_ml (take (c.args.n - 0) row) c.args.mm.now c.args.ml.now) =
+    let read : c.check_tag.result ≡ on_done counts_of (read_tag c.args.has_ml (take (c.args.n - 0) row) c.args.mm.now c.args.ml.now) =
     c.check_tag.ensures in
     read
     ∙ ap (λ (s : List ℕ). on_done counts_of (read_tag c.args.has_ml s c.args.mm.now c.args.ml.now))

@@ -5,7 +5,6 @@ use Prim.Native.Nat.{ℕ, ◌-◌}
 use native.Mathlib.Omega.{arith}
 use mathlib.Core.List.{List}
 use lib.ListN.{take}
-use Rattle.reading.specs.Answers.{reading_says}
 use Rattle.reading.specs.Calls.{calls_read, read_calls}
 use Rattle.packed.proofs.Turning.{read_front}
 use Rattle.stored.proofs.read_with.Goals as goal
@@ -13,7 +12,7 @@ use Rattle.stored.proofs.read_with.Goals as goal
 pub returns : goal.returns
 returns c =
     let row = c.unpack_row.new.row in
-    let made : calls_read (reading_says c.read_calls.result) c.read_calls.new.groups c.read_calls.new.places c.read_calls.new.starts
+    let made : calls_read c.read_calls.result c.read_calls.new.groups c.read_calls.new.places c.read_calls.new.starts
     ≡ read_calls c.args.has_ml (take (c.args.n - 0) row) c.args.mm.now c.args.ml.now c.args.groups.now c.args.places.now c.args.starts.now =
     c.read_calls.ensures in
     made

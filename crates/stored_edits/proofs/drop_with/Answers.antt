@@ -7,7 +7,6 @@ use lib.ListN.{length, take}
 use Rattle.changing.specs.Windows.{stored_at, window_edit}
 use Rattle.editing.specs.Rewrote.{leaves_tag, rewrote}
 use Rattle.lent.specs.Filled.{over}
-use Rattle.lent.specs.Outcome.{tag_says}
 use Rattle.packed.proofs.Turning.{length_in_read}
 use Rattle.packed.specs.Stored.{in_read, places_in_read}
 use Rattle.samtags.proofs.Taken.{in_domain_lem}
@@ -33,7 +32,7 @@ returns c =
     read_front c.args.reverse c.args.n c.args.packed.now _ c.args.row.now (c.args.n - 0) (omega arith) row) in
     let marks : c.mark_in_read.new.row ≡ stored_at 1 (places_in_read c.args.reverse c.args.n c.args.places.now) c.args.marks.now = c.mark_in_read.ensures in
     let row = c.unpack_row.new.row in
-    let made : rewrote (tag_says c.edit_tag.result) c.edit_tag.new.mm_out c.edit_tag.new.ml_out
+    let made : rewrote c.edit_tag.result c.edit_tag.new.mm_out c.edit_tag.new.ml_out
     ≡ leaves_tag c.args.has_ml (in_room c.args.has_ml (length c.args.mm_out.now) (length c.args.ml_out.now)
     (edited (window_edit 0 (take (c.args.n - 0) row) c.mark_in_read.new.row) c.args.has_ml (take (c.args.n - 0) row) c.args.mm.now c.args.ml.now))
     c.args.mm_out.now c.args.ml_out.now =

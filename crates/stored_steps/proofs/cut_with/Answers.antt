@@ -1,7 +1,7 @@
 -- `cut_with` unpacks SEQ, cuts its ends in read orientation, and packs it back.
 -- Assumes nothing.
 use mathlib.Core.Path.{◌∙◌, ◌≡◌, refl}
-use Prim.Native.Nat.{ℕ, ◌-◌, ◌≤◌}
+use Prim.Native.Nat.{ℕ, ◌≤◌}
 use native.Mathlib.Omega.{arith}
 use mathlib.Core.List.{List}
 use lib.ListN.{length, take}

@@ -1,17 +1,16 @@
 -- `pass_place`: the place gives its spot, or nothing if it has none.
 -- Assumes nothing.
-use mathlib.Core.Path.{◌∙◌, ◌≡◌, ap, refl, sym}
+use Rattle.std.specs.Prelude.{None, Some}
+use mathlib.Core.Path.{◌∙◌, ◌≡◌, refl, sym}
 use native.Mathlib.Numerals.{add-one}
 use native.Mathlib.Omega.{arith}
 use mathlib.Core.Bool.{false, true}
-use mathlib.Core.Option.{none, some}
 use lib.ListN.{get_or}
 use Rattle.pattern.proofs.Cases.{same_sym}
 use Rattle.pattern.specs.Case.{same_in_any_case}
 use Rattle.pattern.specs.Patterns.{letter_of}
 use Rattle.samtags.specs.Building.{Evidence, called_at, columns}
 use Rattle.strand.proofs.Spots.{bare_there, call_there, found_there, untracked}
-use Rattle.strand.specs.Walk.{called_says}
 use Rattle.strand.proofs.pass_place.Goals as goal
 
 pub returns-then-not-same : goal.returns-then-not-same
@@ -30,8 +29,8 @@ returns-in_default c =
     let ev : Evidence = columns a.informative.now a.unconverted.now a.converted.now in
     let tracked : same_in_any_case (letter_of a.pattern) (get_or a.seq.now a.place 0) ≡ true =
     sym (told) ∙ c.if-not-same.false in
-    let no_call : called_at a.mode ev a.place ≡ none =
-    found_there a.mode a.pattern ev a.seq.now a.place c.call_of-found.result none c.call_of-found.ensures (ap called_says c.in_default.is) in
+    let no_call : called_at a.mode ev a.place ≡ None =
+    found_there a.mode a.pattern ev a.seq.now a.place c.call_of.result None c.call_of.ensures (c.in_default.is) in
     rw (bare_there a.mode a.pattern ev a.seq.now a.place tracked no_call) (add-one _, omega arith, omega arith, refl, refl)
 
 pub returns : goal.returns
@@ -41,8 +40,8 @@ returns c =
     let ev : Evidence = columns a.informative.now a.unconverted.now a.converted.now in
     let tracked : same_in_any_case (letter_of a.pattern) (get_or a.seq.now a.place 0) ≡ true =
     sym (told) ∙ c.if-not-same.false in
-    let v = c.in-Value.value in
-    let is_call : called_at a.mode ev a.place ≡ some v =
-    found_there a.mode a.pattern ev a.seq.now a.place c.call_of-found.result (some v) c.call_of-found.ensures (ap called_says c.in-Value.is) in
+    let v = c.in-Some.value in
+    let is_call : called_at a.mode ev a.place ≡ Some v =
+    found_there a.mode a.pattern ev a.seq.now a.place c.call_of.result (Some v) c.call_of.ensures (c.in-Some.is) in
     let put = c.put_entry.ensures in
     rw (call_there a.mode a.pattern ev a.seq.now a.place v tracked is_call) put

@@ -1,7 +1,7 @@
 -- `put_entries`. Invariant: what is written so far, followed by what the remaining places give, is the whole result.
 -- Assumes nothing.
 use mathlib.Core.Path.{◌≡◌}
-use Prim.Native.Nat.{◌*◌, ◌+◌, ◌-◌, ◌≤◌, ℕ}
+use Prim.Native.Nat.{◌*◌, ◌+◌, ◌≤◌, ℕ}
 use mathlib.Core.List.{List}
 use lib.ListN.{length}
 use lib.Seq.{sets}
@@ -26,12 +26,8 @@ values_from mode pattern seq informative unconverted converted place =
 abbrev pub invariant-loop-place : goal.invariant-loop-place
 invariant-loop-place l = let entries = entries_from l.mode l.pattern l.seq l.informative l.unconverted l.converted in
     let values = values_from l.mode l.pattern l.seq l.informative l.unconverted l.converted in
-    (l.place ≤ length l.seq) × (length l.text ≡ length l.initial.text) × (length l.ml ≡ length l.initial.ml)
-    × (l.pen.text + l.pen.skip ≤ l.at + 2 * l.place) × (l.pen.values ≤ l.place)
+    (l.pen.text + l.pen.skip ≤ l.at + 2 * l.place) × (l.pen.values ≤ l.place)
     × (l.at + length (entries 0 0) ≡ l.pen.text + length (entries l.place l.pen.skip))
     × (0 + length (values 0) ≡ l.pen.values + length (values l.place))
     × (sets l.initial.text l.at (entries 0 0) ≡ sets l.text l.pen.text (entries l.place l.pen.skip))
     × (sets l.initial.ml 0 (values 0) ≡ sets l.ml l.pen.values (values l.place))
-
-abbrev pub decreases-loop-place : goal.decreases-loop-place
-decreases-loop-place l = length l.seq - l.place

@@ -1,24 +1,13 @@
-use mathlib.Core.Path.{◌≡◌, refl}
-use native.Mathlib.Omega.{arith}
-use lib.ListN.{replicate, length-set, length-replicate}
-use Rattle.lent.proofs.Filled.{over_none, over_one_more}
+-- `put_missing` fills the front of the row. Assumes nothing.
+use Rattle.std.proofs.Common.{◌≡◌, length, replicate, take, rules, arith}
+use lib.ListN.{length-replicate, length-take}
+use Rattle.lent.specs.Filled.{over}
 use Rattle.cigar.specs.Cigar.{missing}
-use Rattle.walking.proofs.Walks.{missing_more}
 use Rattle.walking.proofs.put_missing.Goals as goal
 
-pub loop-i-init : goal.loop-i-init
-loop-i-init c = (omega arith, refl, over_none c.args.out.now)
-
-pub loop-i-preserved : goal.loop-i-preserved
-loop-i-preserved c =
-    let i = c.loop-i.i in (
-      omega arith,
-      simp length-set (omega arith),
-      rw (c.loop-i.invariant.2, missing_more i)
-          (over_one_more (replicate i missing) c.args.out.now i missing (length-replicate i missing) (omega arith)),
-    )
-
 pub returns : goal.returns
+unfolding over
 returns c =
-    let end : c.loop-i.i ≡ c.args.n = omega arith in
-    rw end at c.loop-i.invariant.2
+    let long : length (take c.args.n c.args.out.now) ≡ c.args.n = rw (length-take c.args.n c.args.out.now) (omega arith) in
+    let filled : c.fill.new.self ≡ replicate c.args.n missing = rw long at (c.fill.ensures.after (search rules)) in
+    rw (filled, length-replicate c.args.n missing)

@@ -1,10 +1,9 @@
 use mathlib.Core.Path.{refl, ap, ◌∙◌}
-use Prim.Native.Nat.{ℕ, ◌+◌, ◌-◌, ◌≤◌, ◌<◌}
-use native.Mathlib.Omega.{arith}
-use lib.ListN.{length, length-take, length-drop}
+use Prim.Native.Nat.{ℕ, ◌-◌, ◌<◌}
+use lib.ListN.{length}
 use Rattle.cigar.specs.Cigar.{bases_taken, places_taken}
-use Rattle.walking.specs.Walk.{in_order_of, moved, Reaches}
-use Rattle.walking.proofs.Walks.{come_start, come_end, come_room, come_reach, come_on, length_in_order, total_in_order}
+use Rattle.walking.specs.Walk.{in_order_of, moved}
+use Rattle.walking.proofs.Walks.{come_start, come_on, length_in_order, total_in_order}
 use Rattle.walking.proofs.walk.Goals as goal
 
 pub loop-i-init : goal.loop-i-init
@@ -13,49 +12,6 @@ loop-i-init c =
     come_start a.is_reverse a.outset (in_order_of a.is_reverse a.cigar.now) a.positions.now
     (rw (total_in_order bases_taken a.is_reverse a.cigar.now) c.requires.0)
     (rw (total_in_order places_taken a.is_reverse a.cigar.now) c.requires.1)
-
-pub offset_bounds-positions-at : goal.offset_bounds-positions-at
-offset_bounds-positions-at c =
-    let among : c.loop-i.i < length (in_order_of c.args.is_reverse c.args.cigar.now) = (let a = c.args in
-    rw (length_in_order a.is_reverse a.cigar.now) c.loop-i-test.true) in
-    let room : c.loop-i.at + bases_taken c.word_at-word.result ≤ length c.loop-i.positions = come_room c.loop-i.invariant c.word_at-word.result (among) c.word_at-word.ensures in
-    omega (arith, room)
-
-pub slice_bounds-put_operation-count : goal.slice_bounds-put_operation-count
-slice_bounds-put_operation-count c =
-    let among : c.loop-i.i < length (in_order_of c.args.is_reverse c.args.cigar.now) = (let a = c.args in
-    rw (length_in_order a.is_reverse a.cigar.now) c.loop-i-test.true) in
-    let room : c.loop-i.at + bases_taken c.word_at-word.result ≤ length c.loop-i.positions = come_room c.loop-i.invariant c.word_at-word.result (among) c.word_at-word.ensures in
-    omega (arith, room)
-
-pub slice_bounds-put_operation-start : goal.slice_bounds-put_operation-start
-slice_bounds-put_operation-start c =
-    let among : c.loop-i.i < length (in_order_of c.args.is_reverse c.args.cigar.now) = (let a = c.args in
-    rw (length_in_order a.is_reverse a.cigar.now) c.loop-i-test.true) in
-    let room : c.loop-i.at + bases_taken c.word_at-word.result ≤ length c.loop-i.positions = come_room c.loop-i.invariant c.word_at-word.result (among) c.word_at-word.ensures in
-    omega (arith, room)
-
-pub put_operation-requires : goal.put_operation-requires
-put_operation-requires c =
-    let among : c.loop-i.i < length (in_order_of c.args.is_reverse c.args.cigar.now) = (let a = c.args in
-    rw (length_in_order a.is_reverse a.cigar.now) c.loop-i-test.true) in
-    let room : c.loop-i.at + bases_taken c.word_at-word.result ≤ length c.loop-i.positions = come_room c.loop-i.invariant c.word_at-word.result (among) c.word_at-word.ensures in
-    let reach : Reaches c.args.is_reverse c.loop-i.place (places_taken c.word_at-word.result) = come_reach c.loop-i.invariant c.word_at-word.result (among) c.word_at-word.ensures in
-    (simp (length-take, length-drop) (omega (arith, room)), reach)
-
-pub moved-place-requires : goal.moved-place-requires
-moved-place-requires c =
-    let among : c.loop-i.i < length (in_order_of c.args.is_reverse c.args.cigar.now) = (let a = c.args in
-    rw (length_in_order a.is_reverse a.cigar.now) c.loop-i-test.true) in
-    let reach : Reaches c.args.is_reverse c.loop-i.place (places_taken c.word_at-word.result) = come_reach c.loop-i.invariant c.word_at-word.result (among) c.word_at-word.ensures in
-    rw c.places_taken.ensures (reach)
-
-pub overflow_add-at : goal.overflow_add-at
-overflow_add-at c =
-    let among : c.loop-i.i < length (in_order_of c.args.is_reverse c.args.cigar.now) = (let a = c.args in
-    rw (length_in_order a.is_reverse a.cigar.now) c.loop-i-test.true) in
-    let room : c.loop-i.at + bases_taken c.word_at-word.result ≤ length c.loop-i.positions = come_room c.loop-i.invariant c.word_at-word.result (among) c.word_at-word.ensures in
-    omega (arith, room)
 
 pub loop-i-preserved : goal.loop-i-preserved
 loop-i-preserved c =
@@ -66,8 +22,3 @@ loop-i-preserved c =
     c.moved-place.result c.put_operation.new.out refl c.bases_taken.ensures
     (c.moved-place.ensures ∙ ap (λ (n : ℕ). moved a.is_reverse c.loop-i.place n) c.places_taken.ensures)
     c.put_operation.ensures
-
-pub returns : goal.returns
-returns c =
-    let a = c.args in
-    come_end c.loop-i.invariant (rw (length_in_order a.is_reverse a.cigar.now) c.loop-i-test.false)

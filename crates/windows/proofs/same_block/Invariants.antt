@@ -1,13 +1,9 @@
 -- `same_block` compares one byte after the other.
 -- Assumes nothing.
 use mathlib.Core.Path.{◌≡◌}
-use Prim.Native.Nat.{◌-◌, ◌≤◌}
 use lib.ListN.{drop, take}
 use Rattle.samtags.specs.Edits.{same_bytes_of}
 use Rattle.windows.proofs.same_block.Given as goal
 
 abbrev pub invariant-loop-i : goal.invariant-loop-i
-invariant-loop-i l = (l.i ≤ l.size) × (l.same ≡ same_bytes_of (take l.i (drop l.from l.a)) (take l.i (drop l.from l.b)))
-
-abbrev pub decreases-loop-i : goal.decreases-loop-i
-decreases-loop-i l = l.size - l.i
+invariant-loop-i l = l.same ≡ same_bytes_of (take l.i (drop l.from l.a)) (take l.i (drop l.from l.b))

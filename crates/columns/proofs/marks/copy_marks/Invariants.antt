@@ -2,8 +2,8 @@
 -- Assumes nothing.
 use mathlib.Core.Path.{◌≡◌}
 use mathlib.Core.List.{map}
-use Prim.Native.Nat.{ℕ, ◌≤◌, ◌-◌}
-use lib.ListN.{length, take}
+use Prim.Native.Nat.{ℕ}
+use lib.ListN.{take}
 use Rattle.lent.specs.Filled.{over}
 use Rattle.columns.specs.Columns.{is_yes, yes_byte}
 use Rattle.columns.proofs.marks.copy_marks.Given as goal
@@ -12,7 +12,4 @@ abbrev pub mark : ℕ → ℕ
 mark y = yes_byte (is_yes y)
 
 abbrev pub invariant-loop-i : goal.invariant-loop-i
-invariant-loop-i l = (l.i ≤ length l.informative) × (length l.out ≡ length l.initial.out) × (l.out ≡ over (map mark (take l.i l.informative)) l.initial.out)
-
-abbrev pub decreases-loop-i : goal.decreases-loop-i
-decreases-loop-i l = length l.informative - l.i
+invariant-loop-i l = l.out ≡ over (map mark (take l.i l.informative)) l.initial.out

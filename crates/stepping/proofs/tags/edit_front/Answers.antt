@@ -8,7 +8,6 @@ use mathlib.Core.List.{List}
 use lib.ListN.{length, length-take, take}
 use Rattle.changing.specs.Windows.{window_edit}
 use Rattle.editing.specs.Rewrote.{leaves_tag, rewrote}
-use Rattle.lent.specs.Outcome.{tag_says}
 use Rattle.samtags.specs.Edits.{edited}
 use Rattle.stepping.proofs.StepLaws.{front_edited}
 use Rattle.stepping.proofs.tags.edit_front.Goals as goal
@@ -29,8 +28,8 @@ returns c =
     let n = c.args.text - 0 in
     let k = c.values_taken-taken.result - 0 in
     let e = window_edit c.args.lo c.args.after.now c.args.marks.now in
-    let made : rewrote (tag_says c.edit_in_place.result) c.edit_in_place.new.text c.edit_in_place.new.ml
+    let made : rewrote c.edit_in_place.result c.edit_in_place.new.text c.edit_in_place.new.ml
     ≡ leaves_tag c.args.has_ml (edited e c.args.has_ml c.args.seq.now (take n c.args.mm.now) (take k c.args.ml.now)) (take n c.args.mm.now) (take k c.args.ml.now) =
     c.edit_in_place.ensures in
-    front_edited c.args.has_ml e c.args.seq.now c.args.mm.now c.args.ml.now c.args.text c.args.values n k (tag_says c.edit_in_place.result) c.edit_in_place.new.text c.edit_in_place.new.ml
+    front_edited c.args.has_ml e c.args.seq.now c.args.mm.now c.args.ml.now c.args.text c.args.values n k c.edit_in_place.result c.edit_in_place.new.text c.edit_in_place.new.ml
     (omega arith) (omega (arith, c.values_taken-taken.ensures)) made

@@ -1,16 +1,16 @@
 -- `aql_duplex_methylation_tags`: SEQ, tags and counts of one strand or two, for C.
 -- Assumes nothing.
+use Rattle.std.specs.Prelude.{Ok, Err}
 use mathlib.Core.Path.{◌≡◌, ◌∙◌, ap, refl, sym}
 use lib.ListN.{length}
 use Rattle.lent.specs.Filled.{leaves}
-use Rattle.lent.specs.Outcome.{Outcome, done, refused, and_then, on_done}
+use Rattle.lent.specs.Outcome.{Outcome, and_then, on_done}
 use Rattle.pattern.specs.Patterns.{pattern_of}
 use Rattle.pattern.specs.declared.ConversionPattern.{ConversionPattern}
 use Rattle.pattern.specs.declared.MethylationMode.{MethylationMode}
 use Rattle.duplex.specs.Duplex.{Duplexed, strand, rows, lengths_of, duplex_tags}
-use Rattle.duplex.specs.Answers.{duplex_says}
 use Rattle.telling.proofs.Handed.{number_handed, told_handed}
-use Rattle.modes.specs.Modes.{mode_of, mode_says}
+use Rattle.modes.specs.Modes.{mode_of}
 use Rattle.telling_strands.specs.Strands.{part_row}
 use Rattle.taglib.proofs.Chosen.{chosen_outcome, row_handed}
 use Rattle.taglib.proofs.duplexes.aql_duplex_methylation_tags.Reads as reads
@@ -21,9 +21,9 @@ use Rattle.modes.proofs.mode_of.Reads as mode-of-reads
 use Rattle.telling_strands.proofs.joined.Reads as joined-reads
 use Rattle.taglib.proofs.duplexes.aql_duplex_methylation_tags.Goals as goal
 
-pub returns-in-Known : goal.returns-in-Known
-returns-in-Known c =
-    let e : mode_of c.args.mode ≡ done c.in-Known.chosen = sym c.mode_of.ensures ∙ ap mode_says c.in-Known.is in
+pub returns-in-Ok : goal.returns-in-Ok
+returns-in-Ok c =
+    let e : mode_of c.args.mode ≡ Ok c.in-Ok.chosen = sym c.mode_of.ensures ∙ c.in-Ok.is in
     let run : MethylationMode → ConversionPattern → ConversionPattern → Outcome Duplexed = λ m p q.
     duplex_tags c.args.strands m c.args.bases.now
     (strand p c.args.first_informative.now c.args.first_unconverted.now c.args.first_converted.now)
@@ -32,9 +32,9 @@ returns-in-Known c =
     (length c.args.first_mm.now) (length c.args.first_unconverted_counts.now) (length c.args.first_converted_counts.now)
     (length c.args.second_mm.now) (length c.args.second_unconverted_counts.now) (length c.args.second_converted_counts.now)) in
     let same = chosen_outcome run c.args.mode c.args.first_flags c.args.second_flags e
-    c.from_read_flags.ensures c.from_read_flags-in-Known.ensures in
+    c.from_read_flags.ensures c.from_read_flags-in-Ok.ensures in
     let o = and_then (mode_of c.args.mode) (λ m. run m (pattern_of c.args.first_flags) (pattern_of c.args.second_flags)) in
-    let answered : duplex_says c.duplex_methylation_tags-answer.result ≡ on_done lengths_of o = c.duplex_methylation_tags-answer.ensures.0 ∙ ap (on_done lengths_of) same in (
+    let answered : c.duplex_methylation_tags-answer.result ≡ on_done lengths_of o = c.duplex_methylation_tags-answer.ensures.0 ∙ ap (on_done lengths_of) same in (
       number_handed lengths_of o answered c.joined.ensures.0,
       told_handed part_row lengths_of o c.args.lengths.now answered c.joined.ensures.1,
       row_handed (λ d. d.seq) c.args.seq.now same c.duplex_methylation_tags-answer.ensures.1,
@@ -50,8 +50,8 @@ returns-in-Known c =
       row_handed (λ d. d.second.converted) c.args.second_converted_counts.now same c.duplex_methylation_tags-answer.ensures.11,
     )
 
-pub returns-in-Refused : goal.returns-in-Refused
+pub returns-in-Err : goal.returns-in-Err
 unfolding leaves
-returns-in-Refused c =
-    let e : mode_of c.args.mode ≡ refused c.in-Refused.refusal = sym c.mode_of.ensures ∙ ap mode_says c.in-Refused.is in
-    rw e (refl, refl, refl, refl, refl, refl, refl, refl, refl, refl, refl, refl, refl)
+returns-in-Err c =
+    let e : mode_of c.args.mode ≡ Err c.in-Err.refusal = sym c.mode_of.ensures ∙ c.in-Err.is in
+    rw e (c.number.ensures, refl, refl, refl, refl, refl, refl, refl, refl, refl, refl, refl, refl)

@@ -8,4 +8,4 @@ use Rattle.taglib.proofs.stored_reading.aql_stored_tally.Goals as goal
 pub returns : goal.returns
 returns c =
     tally_handed (tally_stored (yes c.args.reverse) c.args.bases c.args.packed.now c.args.mm.now c.args.ml.now) c.args.above.now c.args.below.now
-    c.tally-answer.ensures c.counted.ensures
+    _ c.tally-answer.ensures c.both.ensures

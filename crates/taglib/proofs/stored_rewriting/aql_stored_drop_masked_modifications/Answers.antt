@@ -16,4 +16,4 @@ returns c =
     let o = mask_stored (yes c.args.reverse) (yes c.args.has_ml) c.args.before_bases c.args.before.now c.args.after_bases c.args.after.now c.args.mm.now c.args.ml.now
     (length c.args.mm_out.now) (length c.args.ml_out.now) in
     tag_handed (yes c.args.has_ml) o c.args.mm_out.now c.args.ml_out.now c.args.mm_out_len.now c.args.ml_out_len.now
-    c.drop_masked_modifications-answer.ensures c.tagged.ensures
+    c.drop_masked_modifications-answer.ensures c.both.ensures

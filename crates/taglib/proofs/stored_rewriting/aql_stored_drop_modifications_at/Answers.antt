@@ -16,4 +16,4 @@ returns c =
     let o = drop_stored (yes c.args.reverse) (yes c.args.has_ml) c.args.bases c.args.packed.now c.args.places.now c.args.mm.now c.args.ml.now
     (length c.args.mm_out.now) (length c.args.ml_out.now) in
     tag_handed (yes c.args.has_ml) o c.args.mm_out.now c.args.ml_out.now c.args.mm_out_len.now c.args.ml_out_len.now
-    c.drop_modifications_at-answer.ensures c.tagged.ensures
+    c.drop_modifications_at-answer.ensures c.both.ensures

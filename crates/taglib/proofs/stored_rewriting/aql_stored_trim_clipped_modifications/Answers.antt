@@ -14,4 +14,4 @@ pub returns : goal.returns
 returns c =
     stored_cut_handed (yes c.args.reverse) (yes c.args.has_ml) (given_start c.args.start_known c.args.start) c.args.before_bases c.args.before.now c.args.after_bases
     c.args.after.now c.args.mm.now c.args.ml.now c.args.mm_out.now c.args.ml_out.now c.args.mm_out_len.now c.args.ml_out_len.now
-    c.window_start-begin.ensures c.trim_clipped_modifications-answer.ensures c.tagged.ensures
+    c.window_start-begin.ensures c.trim_clipped_modifications-answer.ensures c.both.ensures
