@@ -15,7 +15,7 @@
  *   the call nobody else writes to any of it or reads what the call may write; the stack has room for the call. Rows that are only read may overlap one
  *   another.
  * - Stack. No theorem bounds it, and a program can end at its stack's guard page. tools/stack-use reads the stack off the machine code, without that of C's
- *   memcpy, memmove and memset; docs/STACK.md has the bytes of each call. A call takes at most:
+ *   memcpy and memset; docs/STACK.md has the bytes of each call. A call takes at most:
  *     40,000 bytes: aql_stored_drop_masked_modifications, aql_stored_drop_modifications_at, aql_stored_trim_clipped_modifications, aql_stored_mask,
  *                   aql_stored_drop_calls;
  *     20,000 bytes: aql_drop_modifications_at, aql_session_mask, aql_session_drop_calls, aql_stored_check_tag, aql_stored_read_calls, aql_stored_tally,

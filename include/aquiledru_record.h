@@ -22,7 +22,7 @@
  *   call nobody else writes to any of it or reads what the call may write; the stack has room for the call. Rows that are only read may overlap one
  *   another.
  * - Stack. No theorem bounds it, and a program can end at its stack's guard page. tools/stack-use reads the stack off the machine code, without that of C's
- *   memmove and memset; docs/STACK.md has the bytes of each call. A call takes at most:
+ *   memcpy and memset; docs/STACK.md has the bytes of each call. A call takes at most:
  *     54,000 bytes: every call.
  * - Yes and no. A uint8_t that asks for a yes is yes for every value but 0.
  * - Orientation. `before`, places and start are those of the stored read; places and start count from 0. MM and ML are always in read orientation, and the

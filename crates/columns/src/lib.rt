@@ -91,5 +91,7 @@ pub fn copy_counts(counts: &[u32], out: &mut [u32])
     requires { length counts.now ≤ length out.old }
     ensures { out.new ≡ over counts.now out.old }
 {
-    out[..counts.len()].copy_from_slice(counts);
+    for (i, &count) in counts.iter().enumerate() {
+        out[i] = count;
+    }
 }

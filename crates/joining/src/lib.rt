@@ -21,7 +21,9 @@ fn copy(bytes: &[u8], out: &mut [u8])
     requires { length bytes.now ≤ length out.old }
     ensures { out.new ≡ over bytes.now out.old }
 {
-    out[..bytes.len()].copy_from_slice(bytes);
+    for (i, &b) in bytes.iter().enumerate() {
+        out[i] = b;
+    }
 }
 
 // Writes the bases, restored by each strand, to the front of a row.

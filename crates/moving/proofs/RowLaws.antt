@@ -1,13 +1,13 @@
 -- A row that is written from the left while it is read further right: what is still to be read is unchanged.
 -- Assumes nothing.
 use mathlib.Core.Path.{◌≡◌, refl, sym, ap, ◌∙◌}
-use Prim.Native.Nat.{ℕ, suc, ◌+◌, ◌-◌, ◌≤◌}
+use Prim.Native.Nat.{ℕ, suc, ◌+◌, ◌-◌, ◌≤◌, ◌<◌}
 use native.Mathlib.Omega.{arith}
 use mathlib.Core.List.{List, [], ◌∷◌, ◌++◌}
-use lib.ListN.{length, get_or, take, drop, set}
-use lib.Seq.{sets, drop_at, drop-drop, drop-set-lt, get_or-drop, length-take-le}
+use lib.ListN.{length, get_or, take, drop, set, length-drop}
+use lib.Seq.{sets, drop_at, drop-drop, drop-set-lt, get_or-drop, get_or-take, length-take-le}
 use borrow.Rule.Slice.PartMut.{put_mid}
-use Rattle.lent.proofs.Stores.{part_back}
+use Rattle.lent.proofs.Stores.{part_back, sets_on}
 
 module _ {A : Type 0} where
   -- two rows that are the same from n on are so from any later place on
@@ -43,3 +43,15 @@ module _ {A : Type 0} where
       let front : length (take e l) ≡ e = length-take-le e l h in
       ap (drop (e + i)) (part_back l e ys) ∙ sym (drop-drop i e (take e l ++ ys)) ∙ ap (drop i) (drop_at (take e l) ys e front) ∙ q ∙ drop-drop i e l
       ∙ same
+
+  -- a run moves left: byte i of it, which is unchanged in the row, is stored
+  module _ (row₀ row : List A) (from to n i : ℕ) (d : A) (low : i < n) (fits : from + n ≤ length row₀)
+      (ahead : drop (from + i) row ≡ drop (from + i) row₀) where
+    pub move_turn : sets row (to + i) (drop i (take n (drop from row₀)))
+        ≡ sets (set row (to + i) (get_or row (from + i) d)) (to + (i + 1)) (drop (i + 1) (take n (drop from row₀)))
+    move_turn =
+        let size : length (take n (drop from row₀)) ≡ n = length-take-le n (drop from row₀) (omega (arith, length-drop from row₀)) in
+        let byte : get_or (take n (drop from row₀)) i d ≡ get_or row (from + i) d =
+        get_or-take n (drop from row₀) i d low ∙ get_or-drop from row₀ i d ∙ sym (same_at row row₀ (from + i) (from + i) d (omega arith) ahead) in
+        sets_on row to (take n (drop from row₀)) i d (omega arith)
+        ∙ ap (λ (b : A). sets (set row (to + i) b) (to + (i + 1)) (drop (i + 1) (take n (drop from row₀)))) byte

@@ -145,8 +145,10 @@ fn turn_even(packed: &[u8], n: usize, out: &mut [u8])
 {
     let turned = packed::pair_table();
     let whole = n / 2;
+    let mut at = whole; // counted down, which takes fewer instructions than `whole - 1 - i`
     for i in 0..whole {
-        out[i] = entry(&turned, packed[whole - 1 - i]);
+        at -= 1;
+        out[i] = entry(&turned, packed[at]);
     }
 }
 

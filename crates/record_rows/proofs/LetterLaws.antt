@@ -9,7 +9,7 @@ use lib.ListN.{length, get_or, length-map, length-reverse}
 use lib.Seq.{ext_get_or}
 use Rattle.lent.specs.Lists.{tabulate}
 use Rattle.lent.proofs.Reversed.{get_d_reverse}
-use Rattle.lent.proofs.Tabulate.{get_d_tabulate, length_tabulate, map_tabulate, tabulate_ext}
+use Rattle.lent.proofs.Tabulate.{get_d_tabulate, length_tabulate, map_tabulate, tabulate_ext, tabulate_get_d}
 use Rattle.packed.proofs.Codes.{agree_below}
 use Rattle.packed.proofs.Rows.{Bytes, code_at_small}
 use Rattle.packed.specs.Packed.{code_at, complement, letter_of, unpack}
@@ -48,6 +48,11 @@ turned_list l =
     (λ (i : ℕ) (h : i < length (turned_letters true l)).
     let k : i < length l = omega (arith, h, long) in
     turned_at_lem l i k ∙ sym (get_d_tabulate (length l) i (turned_at l) 0 k))
+
+-- as they are, place by place
+pub kept_list : (l : List ℕ) → turned_letters false l ≡ tabulate (length l) (λ i. get_or l i 0)
+unfolding turned_letters
+kept_list l = sym (tabulate_get_d l 0)
 
 -- a complement at place k is the letter at place i of the turned letters, if k is i from the other end
 pub from_the_end : (l : List ℕ) (k i v : ℕ) → v ≡ complement_of (get_or l k 0) → k ≡ length l - 1 - i → v ≡ turned_at l i

@@ -12,6 +12,7 @@ use lib.ListN.{length, take, drop, take-append-drop}
 use lib.Seq.{drop-drop, length-sets, length-take-le, sets, sets-eq, take_all}
 use borrow.Rule.Slice.PartMut.{mid_of, put_mid}
 use Rattle.lent.proofs.Numbers.{le_or_lt}
+use Rattle.lent.proofs.Outcome.{on_done_inv}
 use Rattle.lent.proofs.Stores.{part_back, part_lent, sets_append, sets_out, sets_part}
 use Rattle.lent.specs.Answers.{is_done}
 use Rattle.lent.specs.Lists.{last_or}
@@ -21,7 +22,7 @@ use Rattle.samtags.proofs.Length.{never_longer}
 use Rattle.samtags.specs.Edits.{Edit, edited}
 use Rattle.samtags.specs.Reading.{read, read_groups}
 use Rattle.samtags.specs.Text.{closed_by}
-use Rattle.samtags.specs.Writing.{Tag}
+use Rattle.samtags.specs.Writing.{Tag, sizes_of}
 use Rattle.measuring.specs.Counting.{TagCounted, groups_counted}
 use Rattle.measuring.specs.declared.Count.{Count}
 use Rattle.drafting.specs.Walks.{TagEdited}
@@ -79,6 +80,13 @@ module _ (e : Edit) (ml? : Bool) (seq text ml : List ℕ) where
 
   pub counted_refused : (r : Refusal) → read ml? e.dropped seq text ml ≡ Err r → is_done (edited e ml? seq text ml) ≡ false
   counted_refused r h = ap is_done (edited_refused e ml? seq text ml r h)
+
+-- by the walk that writes, over empty rows
+pub measured_done : (o : Outcome Tag) (n : ℕ × ℕ) → on_done sizes_of o ≡ Ok n → is_done o ≡ true
+measured_done o n h = ap is_done (on_done_inv sizes_of o n h).1
+
+pub measured_refused : (o : Outcome Tag) (r : Refusal) → o ≡ Err r → is_done o ≡ false
+measured_refused o r h = ap is_done h
 
 -- ---- a tag that can be edited
 

@@ -50,7 +50,9 @@ fn letters_forward(letters: &[u8], row: &mut [u8])
     requires { length letters.now ≤ length row.old }
     ensures { row.new ≡ over (turned_letters false letters.now) row.old }
 {
-    row[..letters.len()].copy_from_slice(letters);
+    for (i, &letter) in letters.iter().enumerate() {
+        row[i] = letter;
+    }
 }
 
 // Writes letters to the front of a row, reverse-complemented. The table is made a value once, before the loop.
@@ -90,10 +92,9 @@ pub fn put_bytes(out: &mut [u8], at: usize, bytes: &[u8]) -> usize
     ensures { (result ≡ at + length bytes.now) × (out.new ≡ sets out.old at bytes.now) }
 {
     let fits = fitting(out.len(), at, bytes.len());
-    if fits == 0 {
-        return at + bytes.len();
+    for i in 0..fits {
+        out[at + i] = bytes[i];
     }
-    out[at..at + fits].copy_from_slice(&bytes[..fits]);
     at + bytes.len()
 }
 

@@ -8,7 +8,7 @@ use Prim.Native.Nat.{ℕ, zero, suc, ◌+◌, ◌-◌, ◌≤◌, ◌<◌}
 use native.Mathlib.Numerals.{add-one}
 use native.Mathlib.Omega.{arith}
 use lib.IntN.{ℤ, pos}
-use lib.ListN.{length, get_or, take, drop, replicate, drop_of_length-le, length-replicate, length-append, length-reverse}
+use lib.ListN.{length, get_or, take, drop, replicate, drop_of_length-le, length-replicate, length-append, replicate-append-replicate, length-reverse}
 use lib.Seq.{drop-cons}
 use Rattle.lent.specs.Filled.{over}
 use Rattle.lent.proofs.Filled.{over_none, length_over, over_part}
@@ -66,6 +66,9 @@ length_placed r p word =
 pub bases_within : (word : ℕ) → takes_places (kind_of word) ≡ true → bases_taken word ≤ places_taken word
 bases_within word e =
     by-test (takes_bases (kind_of word)) (λ b. rw (e, b) (omega arith)) (λ b. rw b (omega arith))
+
+pub missing_more : (n : ℕ) → replicate (n + 1) missing ≡ replicate n missing ++ (missing ∷ [])
+missing_more n = sym (replicate-append-replicate n 1 missing)
 
 -- ---- how far the places reach
 

@@ -70,7 +70,9 @@ fn put_missing(n: usize, out: &mut [i64])
     requires { n ≤ length out.old }
     ensures { out.new ≡ over (replicate n missing) out.old }
 {
-    out[..n].fill(-1);
+    for i in 0..n {
+        out[i] = -1;
+    }
 }
 
 // Writes the places of one operation's bases to the front of `out`. An operation that takes no bases writes nothing, however long it is.

@@ -1,21 +1,31 @@
--- `move_left`: what std stores at an index is the run of bytes.
--- Assumes nothing.
-use mathlib.Core.Path.{◌∙◌, ◌≡◌, ap, sym}
-use Prim.Native.Nat.{◌+◌, ◌-◌, ℕ}
+use mathlib.Core.Path.{◌∙◌, ◌≡◌, ap, refl, sym}
+use Prim.Native.Nat.{◌+◌, ◌≤◌, ℕ}
 use native.Mathlib.Omega.{arith}
-use mathlib.Core.List.{◌++◌}
-use lib.ListN.{drop, length, length-drop, take}
-use lib.Seq.{length-take-le, paste}
-use Rattle.std.proofs.lemmas.List.Edits.{sets-eq}
+use lib.ListN.{drop, drop_of_length-le, get_or, length, length-take, take}
+use lib.Seq.{drop-set-lt, sets}
+use Rattle.moving.proofs.RowLaws.{move_turn, same_later}
 use Rattle.moving.proofs.move_left.Goals as goal
+
+pub loop-i-init : goal.loop-i-init
+loop-i-init c =
+    let a = c.args in
+    let z : a.to ≡ a.to + 0 = omega arith in
+    (ap (λ (m : ℕ). sets a.row.now m (take a.n (drop a.from a.row.now))) z, refl)
+
+pub loop-i-preserved : goal.loop-i-preserved
+loop-i-preserved c =
+    let h = c.loop-i in
+    let a = c.args in
+    let b = get_or h.row (a.from + h.i) 0 in (
+      h.invariant.0 ∙ move_turn a.row.now h.row a.from a.to a.n h.i 0 (omega arith) (omega arith) h.invariant.1,
+      drop-set-lt (a.from + (h.i + 1)) h.row (a.to + h.i) b (omega arith)
+          ∙ same_later h.row a.row.now (a.from + h.i) (a.from + (h.i + 1)) (omega arith) h.invariant.1,
+    )
 
 pub returns : goal.returns
 returns c =
+    let h = c.loop-i in
     let a = c.args in
-    let row = a.row.now in
-    let run = take a.n (drop a.from row) in
-    let size : a.from + a.n - a.from ≡ a.n = omega arith in
-    let long : length run ≡ a.n = length-take-le a.n (drop a.from row) (omega (arith, length-drop a.from row)) in
-    c.copy_within.ensures.after ∙ ap (paste row a.to (drop a.from row)) size
-    ∙ ap (λ (k : ℕ). take a.to row ++ run ++ drop (a.to + k) row) (sym long)
-    ∙ sym (sets-eq run row a.to (omega arith))
+    let src = take a.n (drop a.from a.row.now) in
+    let all : length src ≤ h.i = omega (arith, length-take a.n (drop a.from a.row.now)) in
+    sym (h.invariant.0 ∙ ap (sets h.row (a.to + h.i)) (drop_of_length-le src all))

@@ -12,7 +12,7 @@ use Rattle.packed.specs.Walks.{pair_at}
 use Rattle.packed_rows.proofs.turn_even.Goals as goal
 
 pub loop-i-init : goal.loop-i-init
-loop-i-init c = (over_none _, refl)
+loop-i-init c = (omega arith, over_none _, refl)
 
 pub loop-i-preserved : goal.loop-i-preserved
 loop-i-preserved c =
@@ -20,9 +20,10 @@ loop-i-preserved c =
     let a = c.args in
     let packed = a.packed.now in
     let small : Bytes packed = λ p. omega (arith, c.type_inv.packed p) in (
-      one_more (pair_at (reverse_complement (unpack a.n packed))) a.out.now h.out h.i _ h.invariant.0 (omega arith)
-          (c.entry.ensures bits_reversed c.pair_table-turned.ensures ∙ turned_even a.n packed small h.i (a.n / 2 - 1 - h.i) (omega arith) (omega arith)),
-      length-set h.out h.i _ ∙ h.invariant.1,
+      omega (arith, h.invariant.0),
+      one_more (pair_at (reverse_complement (unpack a.n packed))) a.out.now h.out h.i _ h.invariant.1 (omega arith)
+          (c.entry.ensures bits_reversed c.pair_table-turned.ensures ∙ turned_even a.n packed small h.i (h.at - 1) (omega arith) (omega (arith, h.invariant.0))),
+      length-set h.out h.i _ ∙ h.invariant.2,
     )
 
 pub returns : goal.returns
@@ -31,5 +32,5 @@ returns c =
     let a = c.args in
     let turned = reverse_complement (unpack a.n a.packed.now) in
     let all : h.i ≡ bytes_for a.n = omega arith in
-    h.invariant.0 ∙ ap (λ (k : ℕ). over (tabulate k (pair_at turned)) a.out.now) all
+    h.invariant.1 ∙ ap (λ (k : ℕ). over (tabulate k (pair_at turned)) a.out.now) all
     ∙ ap (λ (l : List ℕ). over l a.out.now) (sym (turns_as a.n a.packed.now))

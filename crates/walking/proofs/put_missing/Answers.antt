@@ -1,13 +1,14 @@
--- `put_missing` fills the front of the row. Assumes nothing.
-use Rattle.std.proofs.Common.{◌≡◌, length, replicate, take, rules, arith}
-use lib.ListN.{length-replicate, length-take}
-use Rattle.lent.specs.Filled.{over}
+use native.Mathlib.Omega.{arith}
+use lib.ListN.{replicate, length-replicate}
+use Rattle.lent.proofs.Filled.{over_none, over_one_more}
 use Rattle.cigar.specs.Cigar.{missing}
+use Rattle.walking.proofs.Walks.{missing_more}
 use Rattle.walking.proofs.put_missing.Goals as goal
 
-pub returns : goal.returns
-unfolding over
-returns c =
-    let long : length (take c.args.n c.args.out.now) ≡ c.args.n = rw (length-take c.args.n c.args.out.now) (omega arith) in
-    let filled : c.fill.new.self ≡ replicate c.args.n missing = rw long at (c.fill.ensures.after (search rules)) in
-    rw (filled, length-replicate c.args.n missing)
+pub loop-i-init : goal.loop-i-init
+loop-i-init c = over_none c.args.out.now
+
+pub loop-i-preserved : goal.loop-i-preserved
+loop-i-preserved c =
+    let i = c.loop-i.i in
+    rw (c.loop-i.invariant, missing_more i) (over_one_more (replicate i missing) c.args.out.now i missing (length-replicate i missing) (omega arith))
