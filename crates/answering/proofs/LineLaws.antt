@@ -8,7 +8,7 @@ use native.Mathlib.Nat.{sub-zero}
 use native.Mathlib.Omega.{arith}
 use mathlib.Core.Bool.{Bool, true, false, cond}
 use mathlib.Core.List.{List, map}
-use lib.ListN.{length, take, length-take}
+use lib.ListN.{length, take, length-drop, length-take}
 use lib.Seq.{sets}
 use Rattle.lent.proofs.Filled.{over_front, over_stored}
 use Rattle.lent.specs.Filled.{over}
@@ -60,6 +60,9 @@ masked_front n seq row row₁ row₂ places h k p q =
     ∙ stored_is_masked places (take n seq)
 
 -- ---- the step that a line asks for
+
+pub body_fits : (line : List ℕ) (n : ℕ) → length line ≤ n → length (body_of line) ≤ n
+body_fits line n h = omega (arith, length-drop 2 line)
 
 module _ (l : List ℕ) where
   asked : Option (List ℕ) → Bool → Bool → Bool → Option Step

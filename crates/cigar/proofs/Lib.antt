@@ -1,2 +1,3 @@
+pub mod Among
 pub mod Signed
 pub mod Totals

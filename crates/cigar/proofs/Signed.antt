@@ -42,7 +42,15 @@ module _ (z : ℤ) (f : SFits w64 z) where
   pub cast_value : z ≡ pos (mag z) → nat_abs (to_z w64 (of_z w64 z)) ≡ mag z
   cast_value e = rw (to_z-of_z f) (value_natural z e)
 
--- a start is small
+-- a start is no negative number
+pub start_natural : (z : ℤ) → is_start z ≡ true → z ≡ pos (mag z)
+start_natural (pos n) e = refl
+start_natural (negsuc n) e = let z : ◌≡◌ {A = ℕ} 0 1 = cc in absurd (omega arith)
+
+pub start_value : (z : ℤ) → is_start z ≡ true → mag z ≡ start_of z
+start_value (pos n) e = refl
+start_value (negsuc n) e = let z : ◌≡◌ {A = ℕ} 0 1 = cc in absurd (omega arith)
+
 pub start_small : (z : ℤ) → is_start z ≡ true → start_of z ≤ 2147483647
 start_small (pos n) e = leb-true n 2147483647 e
 start_small (negsuc n) e = let z : ◌≡◌ {A = ℕ} 0 1 = cc in absurd (omega arith)

@@ -5,7 +5,7 @@ use mathlib.Core.List.{List, [], ◌∷◌, ◌++◌, reverse, reverse-cons}
 use Prim.Native.Nat.{ℕ, suc, ◌+◌, ◌*◌, ◌/◌, ◌≤◌, ◌<◌}
 use native.Mathlib.Numerals.{add-one}
 use native.Mathlib.Omega.{arith}
-use lib.ListN.{length, get_or, drop}
+use lib.ListN.{length, get_or, drop, drop_of_length-le}
 use lib.Seq.{drop-cons}
 use Rattle.lent.proofs.Tests.{cond_at_most}
 use Rattle.cigar.specs.Cigar.{kind_of, length_of, takes_bases, takes_places, bases_taken, places_taken, total}
@@ -17,8 +17,16 @@ pub places_at_most : (word : ℕ) → places_taken word ≤ word / 16
 places_at_most word = cond_at_most (takes_places (kind_of word)) (length_of word)
 
 module _ (taken : ℕ → ℕ) where
+  pub total_end : (l : List ℕ) (i : ℕ) → length l ≤ i → total taken (drop i l) ≡ 0
+  total_end l i h = rw (drop_of_length-le l h)
+
   pub total_on : (l : List ℕ) (i : ℕ) → i < length l → total taken (drop i l) ≡ taken (get_or l i 0) + total taken (drop (i + 1) l)
   total_on l i h = simp (add-one, drop-cons l i 0 h)
+
+  -- one word more, where the sum so far and the rest are the whole
+  pub total_step : (l : List ℕ) (i sum n : ℕ) → i < length l → n ≡ taken (get_or l i 0) → sum + total taken (drop i l) ≡ total taken l
+      → sum + n + total taken (drop (i + 1) l) ≡ total taken l
+  total_step l i sum n h e whole = omega (arith, total_on l i h)
 
   pub total_append : (xs ys : List ℕ) → total taken (xs ++ ys) ≡ total taken xs + total taken ys
   total_append [] ys = omega arith

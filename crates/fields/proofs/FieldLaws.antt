@@ -7,7 +7,7 @@ use mathlib.Core.List.{List, [], ◌∷◌}
 use lib.Dec.{eqb}
 use lib.ListN.{drop, drop_of_length-le, get_or, length, take}
 use borrow.Author.Tests.{ne_eqb}
-use Rattle.lent.proofs.Lists.{drop_here}
+use Rattle.lent.proofs.Lists.{drop_here, empty_of_length}
 use Rattle.lent.proofs.Tests.{by-test}
 use Rattle.lent.specs.Lists.{last_or}
 use Rattle.fields.specs.Fields.{field_of}
@@ -44,3 +44,6 @@ last_at d (x ∷ []) zero h = refl
 last_at d (x ∷ []) (suc n) h = absurd (omega arith)
 last_at d (x ∷ y ∷ ys) zero h = absurd (omega arith)
 last_at d (x ∷ y ∷ ys) (suc n) h = last_at x (y ∷ ys) n (omega arith)
+
+pub last_of_none : (xs : List ℕ) → length xs ≡ 0 → last_or 0 xs ≡ 0
+last_of_none xs h = rw (empty_of_length xs h)

@@ -6,25 +6,37 @@ use native.Mathlib.Omega.{arith}
 use mathlib.Core.Bool.{cond}
 use mathlib.Core.List.{List, [], ◌∷◌}
 use lib.Dec.{eqb, leb}
-use lib.ListN.{length, take, drop, length-drop, drop_of_length-le}
+use lib.ListN.{length, get_or, take, drop, length-drop, drop_of_length-le}
 use lib.Seq.{drop-drop, take_all}
-use borrow.Author.Tests.{le-leb, lt-leb, leb-true, leb-false}
+use borrow.Author.Tests.{eq-eqb, ne_eqb, le-leb, lt-leb, leb-true, leb-false}
 use Rattle.std.proofs.Common.{None, Some, nat_lt, position}
 use Rattle.std.proofs.lemmas.List.Recursion.{is_position_or_len}
 use Rattle.std.proofs.lemmas.Option.{cond_some, none-some}
 use Rattle.std.specs.List.{position_or_len}
+use Rattle.lent.proofs.Lists.{drop_here}
 use Rattle.lent.proofs.Tests.{by-test}
 use Rattle.samtags.specs.Text.{up_to, led_by}
 use Rattle.lines.specs.Lines.{lines_of, pushed, joined}
 
 -- ---- up to the next c
 
+module _ (c : ℕ) (t : List ℕ) (e : ℕ) where
+  pub up_to_end : length t ≤ e → length (up_to c (drop e t)) ≡ 0
+  up_to_end h = rw (drop_of_length-le t h)
+
+  module _ (l : e < length t) where
+    pub up_to_stop : get_or t e 0 ≡ c → length (up_to c (drop e t)) ≡ 0
+    up_to_stop h = rw (drop_here t e 0 l, eq-eqb (get_or t e 0) c h)
+
+    pub up_to_on : (get_or t e 0 ≡ c → ⊥) → length (up_to c (drop e t)) ≡ suc (length (up_to c (drop (e + 1) t)))
+    up_to_on h = rw (drop_here t e 0 l, ne_eqb (get_or t e 0) c h)
+
 up_to_take : (c : ℕ) (xs : List ℕ) → take (length (up_to c xs)) xs ≡ up_to c xs
 up_to_take c [] = refl
 up_to_take c (x ∷ xs) = by-test (eqb x c) (λ p. rw p) (λ p. rw p (ap (λ (r : List ℕ). x ∷ r) (up_to_take c xs)))
 
 -- the first n bytes, if c follows them
-up_to_part : (c : ℕ) (xs : List ℕ) (n : ℕ) → length (up_to c xs) ≡ n → take n xs ≡ up_to c xs
+pub up_to_part : (c : ℕ) (xs : List ℕ) (n : ℕ) → length (up_to c xs) ≡ n → take n xs ≡ up_to c xs
 up_to_part c xs n h = rw (← h) (up_to_take c xs)
 
 up_to_place : (c : ℕ) (xs : List ℕ) → length (up_to c xs) ≡ position_or_len (λ b. eqb b c) xs

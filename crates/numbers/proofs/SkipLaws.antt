@@ -6,7 +6,7 @@ use native.Mathlib.Omega.{arith}
 use mathlib.Core.Bool.{false, true}
 use mathlib.Core.List.{List, [], ◌++◌, ◌∷◌}
 use lib.Dec.{ltb}
-use lib.ListN.{length-append, drop, get_or, length, set}
+use lib.ListN.{length-append, drop, drop_of_length-le, get_or, length, set}
 use lib.Seq.{sets}
 use borrow.Author.Tests.{le-leb, le-ltb, lt-leb, lt-ltb, ltb-false}
 use Rattle.lent.proofs.Lists.{drop_here}
@@ -35,6 +35,9 @@ unfolding is_digit
 digit_is b l h = rw (le-leb 48 b l, le-leb b 57 h)
 
 module _ (s : List ℕ) (i n : ℕ) where
+  pub value_end : length s ≤ i → value_from n (drop i s) ≡ n
+  value_end h = rw (drop_of_length-le s h)
+
   pub value_on : i < length s → value_from n (drop i s) ≡ value_from (10 * n + (get_or s i 0 - 48)) (drop (i + 1) s)
   value_on l = rw (drop_here s i 0 l)
 

@@ -1,15 +1,18 @@
 -- Reading a field as a number up to a bound, and reading the fields of a line one by one.
 -- Assumes nothing.
-use Rattle.std.specs.Prelude.{Option, None, Some}
+use Rattle.std.specs.Prelude.{Option, None, Some, Ok, Err}
 use mathlib.Core.Path.{◌≡◌, refl, sym, ap, ◌∙◌}
-use Prim.Native.Nat.{ℕ, ◌+◌, ◌≤◌, ◌<◌}
+use Prim.Native.Nat.{ℕ, ◌+◌, ◌≤◌, ◌<◌, min}
 use native.Mathlib.Omega.{arith}
 use mathlib.Core.Bool.{Bool, true, false, cond}
 use mathlib.Core.List.{List, [], ◌∷◌, map}
 use lib.Dec.{leb}
 use lib.ListN.{length, drop}
-use borrow.Author.Tests.{leb-true}
+use borrow.Author.Tests.{le-leb, lt-leb, leb-true}
+use Rattle.lent.proofs.Outcome.{done_inj, need_rest, need_test}
 use Rattle.lent.proofs.Tests.{and_true_r, by-test}
+use Rattle.lent.specs.Outcome.{need, Outcome}
+use Rattle.lent.specs.declared.Refusal.{Refusal}
 use Rattle.samtags.specs.Decimal.{is_number, value}
 use Rattle.samtags.specs.Session.{Step, cut}
 use Rattle.samtags.specs.Text.{up_to}
@@ -17,6 +20,28 @@ use Rattle.lent.specs.Lists.{is_empty}
 use Rattle.lines.proofs.UpToLaws.{field_at, fields_all, fields_from, no_field, up_to_within}
 use Rattle.operands.specs.Answers.{is_number_to, number_to, values_in}
 use Rattle.lines.specs.Lines.{are_numbers, cut_of, given, joined, numbers_of}
+
+module _ (f : List ℕ) (most : ℕ) where
+  -- no decimal
+  pub number_refused : (r : Refusal) → Err r ≡ need (is_number f) 6 (Ok (min (most + 1) (value f))) → number_to most f ≡ None
+  number_refused r e = go (is_number f) refl e
+    where
+      go : (t : Bool) → is_number f ≡ t → ◌≡◌ {A = Outcome ℕ} (Err r) (need t 6 (Ok (min (most + 1) (value f)))) → number_to most f ≡ None
+      go true p e = let z : ◌≡◌ {A = ℕ} 0 1 = cc in absurd (omega arith)
+      go false p e = rw p
+
+  module _ (n : ℕ) (e : Ok n ≡ need (is_number f) 6 (Ok (min (most + 1) (value f)))) where
+    read_as : (is_number f ≡ true) × (min (most + 1) (value f) ≡ n)
+    read_as = (need_test (is_number f) 6 _ n (sym e), done_inj (need_rest (is_number f) 6 _ n (sym e)))
+
+    -- too large
+    pub number_over : most < n → number_to most f ≡ None
+    number_over h = rw (read_as.0, lt-leb (value f) most (omega (arith, read_as.1)))
+
+    pub number_read : n ≤ most → number_to most f ≡ Some n
+    number_read h =
+        let same : value f ≡ n = omega (arith, read_as.1) in
+        rw (read_as.0, same, le-leb n most h)
 
 -- what a number that was read says of its field
 pub number_known : (f : List ℕ) (most n : ℕ) → Some n ≡ number_to most f → (is_number_to most f ≡ true) × (value f ≡ n) × (n ≤ most)

@@ -184,10 +184,10 @@ module _ (possible : Bool) (edit : TagEdit) (mm_text ml_values : List ℕ) (n : 
     mm_there (paired_it t x b q d) e = absurd (omega (arith, e))
 
     alone_there : (f : Field) → alone_fate g f ≡ 1 → is_empty f ≡ false
-    alone_there f e = by-test (is_text f) (λ t. text_there f t) (λ t. None t)
+    alone_there f e = by-test (is_text f) (λ t. text_there f t) (λ t. none t)
       where
-        None : is_text f ≡ false → is_empty f ≡ false
-        None t =
+        none : is_text f ≡ false → is_empty f ≡ false
+        none t =
             let z : ◌≡◌ {A = ℕ} (alone_fate g f) 0 = rw t in
             absurd (omega (arith, z, e))
 

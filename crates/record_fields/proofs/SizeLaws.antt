@@ -8,13 +8,14 @@ use native.Mathlib.Omega.{arith}
 use mathlib.Core.List.{List, [], ◌∷◌}
 use Prim.Native.Nat.compare
 use lib.Dec.{eqb, is_le, leb}
-use lib.ListN.{drop, get_or, length, length-drop, replicate, set, take}
+use lib.ListN.{drop, drop_of_length-le, get_or, length, length-drop, replicate, set, take}
 use lib.Seq.{drop-drop, get_or-drop, sets, take_all}
 use borrow.Author.Tests.{le-leb, leb-false, leb-true, lt-leb, ne_eqb}
 use Rattle.std.proofs.Common.{None, Some, nat_lt, position}
 use Rattle.std.proofs.lemmas.List.Recursion.{is_position_or_len}
 use Rattle.std.proofs.lemmas.Option.{cond_some, none-some}
 use Rattle.std.specs.List.{position_or_len}
+use Rattle.lent.proofs.Lists.{drop_here}
 use Rattle.lent.proofs.Tests.{by-test}
 use Rattle.lent.specs.Lists.{among}
 use Rattle.samtags.specs.Text.{up_to}
@@ -26,6 +27,19 @@ pub zeros : (n k : ℕ) → ◌≡◌ {A = ℕ} (get_or (replicate n 0) k 0) 0
 zeros zero k = refl
 zeros (suc n) zero = refl
 zeros (suc n) (suc k) = zeros n k
+
+-- ---- a text, at a byte of it
+
+module _ (t : List ℕ) (e : ℕ) where
+  pub text_end : length t ≤ e → among (drop e t) 0 ≡ false
+  text_end h = rw (drop_of_length-le t h)
+
+  pub text_stop : e < length t → get_or t e 0 ≡ 0 → (among (drop e t) 0 ≡ true) × (length (up_to 0 (drop e t)) ≡ 0)
+  text_stop l h = rw (drop_here t e 0 l, h) (refl, refl)
+
+  pub text_on : e < length t → (get_or t e 0 ≡ 0 → ⊥)
+      → (among (drop e t) 0 ≡ among (drop (e + 1) t) 0) × (length (up_to 0 (drop e t)) ≡ suc (length (up_to 0 (drop (e + 1) t))))
+  text_on l h = rw (drop_here t e 0 l, ne_eqb (get_or t e 0) 0 h) (refl, refl)
 
 -- ---- a text, by the place of its NUL
 

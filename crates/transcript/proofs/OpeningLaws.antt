@@ -12,11 +12,13 @@ use borrow.Author.Tests.{le-leb, lt-leb}
 use Rattle.lent.proofs.Filled.{over_front, over_stored}
 use Rattle.lent.proofs.Outcome.{need_test, on_done_inv, on_done_refused}
 use Rattle.lent.specs.Filled.{over}
-use Rattle.lent.specs.Outcome.{Outcome, number, on_done}
+use Rattle.lent.specs.Outcome.{Outcome, number, number_of, on_done}
 use Rattle.lent.specs.declared.Refusal.{Refusal}
+use Rattle.samtags.proofs.TableNumbers.{read_tag_in_table}
 use Rattle.samtags.proofs.Taken.{in_domain_lem}
 use Rattle.samtags.specs.Reading.{in_domain, read_tag}
 use Rattle.samtags.specs.Session.{held_in}
+use Rattle.samtags.specs.Spots.{Listing}
 use Rattle.samtags.specs.Text.{up_to}
 use Rattle.operands.proofs.SizeLaws.{values_short}
 use Rattle.lines.proofs.UpToLaws.{line_at, no_line_at}
@@ -36,6 +38,16 @@ use Rattle.transcript.specs.Transcript.{from_first, from_second, from_third, ope
 module _ (ml? : Bool) (seq text ml : List ℕ) (ls : List (List ℕ)) where
   -- what was read, by what the reader says of it
   module _ (r : Outcome (ℕ × ℕ)) (e : r ≡ on_done counts_of (read_tag ml? seq text ml)) where
+    pub opening_number : number_of r ≡ number_of (read_tag ml? seq text ml)
+    opening_number = ap number_of e ∙ go (read_tag ml? seq text ml)
+      where
+        go : (o : Outcome (List Listing)) → number_of (on_done counts_of o) ≡ number_of o
+        go (Err q) = refl
+        go (Ok l) = refl
+
+    pub opening_small : number_of r ≤ 255
+    opening_small = omega (arith, opening_number, read_tag_in_table ml? seq text ml)
+
     pub opening_refused : (q : Refusal) → r ≡ Err q → opened_on ml? seq text ml ls ≡ answer_line (number q)
     unfolding opened_on opened
     opening_refused q f =
